@@ -1,0 +1,19 @@
+-- Choosing by a test: which side is taken, and what holds of both sides.
+use mathlib.Core.Bool.{Bool, true, false, cond}
+use mathlib.Core.Logic.{_⊎_, inl, inr}
+use Prim.Native.Nat.{ℕ, _≤_, _<_}
+use native.Mathlib.Nat.{lt-of-not-le}
+use native.Mathlib.Decide.{decLe}
+
+-- one number is at most another, or above it
+pub at-most-or-above : (a b : ℕ) → (a ≤ b) ⊎ (b < a)
+at-most-or-above a b = go (decLe a b)
+  where
+    go : Dec (a ≤ b) → (a ≤ b) ⊎ (b < a)
+    go (yes h) = inl h
+    go (no f) = inr (lt-of-not-le f)
+
+-- what holds of both sides holds of the chosen one
+pub either-way : {A : Type 0} (P : A → Type 0) (t : Bool) {a b : A} → P a → P b → P (cond t a b)
+either-way P true p q = p
+either-way P false p q = q

@@ -1,0 +1,1 @@
+// No code: facts about numbers, bits, tables and lists that the proofs of several crates cite.

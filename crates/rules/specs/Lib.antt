@@ -1,0 +1,4 @@
+pub mod Crc
+pub mod Limits
+pub mod Refusals
+pub mod Tracker

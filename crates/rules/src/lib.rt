@@ -1,0 +1,8 @@
+// The book: the types that its chapters in specs/ speak of. Its only code is what must stand with a type, the making, stepping and numbering of
+// these values. No public function has a `requires`.
+pub mod data;
+pub mod header;
+pub mod plan;
+pub mod refusal;
+pub mod tail;
+pub mod types;

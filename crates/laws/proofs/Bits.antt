@@ -5,6 +5,8 @@ use Prim.Native.Nat.{ℕ, _+_, _*_, _/_, _%_, _^_, _≤_, _<_}
 use native.Mathlib.Nat.{add-zero}
 use native.Mathlib.Omega.{arith}
 use mir.Val.{boolByte}
+use lib.Dec.{eqb}
+use borrow.Author.Tests.{eq-eqb, ne-eqb}
 use lib.Pow.{split, high, low}
 use lib.Bits.{bitOr, or-shifted}
 
@@ -27,3 +29,8 @@ flag false = refl
 pub flag-le : (b : Bool) → cond b 1 0 ≤ 1
 flag-le true = omega arith
 flag-le false = omega arith
+
+-- a flag read off its bit
+pub flag-read : (b : Bool) (n : ℕ) → n ≡ cond b 1 0 → eqb n 1 ≡ b
+flag-read true n e = eq-eqb n 1 e
+flag-read false n e = ne-eqb n 1 (λ f. omega arith)

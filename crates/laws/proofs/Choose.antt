@@ -1,4 +1,5 @@
 -- Choosing by a test: which side is taken, and what holds of both sides.
+use mathlib.Core.Path.{_≡_, refl}
 use mathlib.Core.Bool.{Bool, true, false, cond}
 use mathlib.Core.Logic.{_⊎_, inl, inr}
 use Prim.Native.Nat.{ℕ, _≤_, _<_}
@@ -17,3 +18,13 @@ at-most-or-above a b = go (decLe a b)
 pub either-way : {A : Type 0} (P : A → Type 0) (t : Bool) {a b : A} → P a → P b → P (cond t a b)
 either-way P true p q = p
 either-way P false p q = q
+
+-- a choice that came out as c was the first, where the second is not c ..
+pub first-chosen : {A : Type 0} (t : Bool) (a b c : A) → cond t a b ≡ c → (b ≡ c → ⊥) → (t ≡ true) × (a ≡ c)
+first-chosen true a b c e f = (refl, e)
+first-chosen false a b c e f = absurd (f e)
+
+-- .. and the second, where the first is not c
+pub second-chosen : {A : Type 0} (t : Bool) (a b c : A) → cond t a b ≡ c → (a ≡ c → ⊥) → (t ≡ false) × (b ≡ c)
+second-chosen true a b c e f = absurd (f e)
+second-chosen false a b c e f = (refl, e)

@@ -1,2 +1,8 @@
 pub mod Crc
+pub mod Limits
+pub mod CanId
+pub mod TailByte
+pub mod Plan
+pub mod Transfer
 pub mod Tracker
+pub mod Bench

@@ -1,4 +1,9 @@
 pub mod Crc
 pub mod Limits
 pub mod Refusals
+pub mod CanId
+pub mod TailByte
+pub mod Plan
+pub mod Transfer
 pub mod Tracker
+pub mod Bench

@@ -2,7 +2,7 @@
 // these values. No public function has a `requires`.
 pub mod data;
 pub mod header;
-pub mod plan;
 pub mod refusal;
+pub mod stats;
 pub mod tail;
 pub mod types;

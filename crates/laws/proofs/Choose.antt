@@ -1,6 +1,6 @@
 -- Choosing by a test: which side is taken, and what holds of both sides.
 use mathlib.Core.Path.{_≡_, refl}
-use mathlib.Core.Bool.{Bool, true, false, cond}
+use mathlib.Core.Bool.{Bool, true, false, cond, _&&_, false≢true}
 use mathlib.Core.Logic.{_⊎_, inl, inr}
 use Prim.Native.Nat.{ℕ, _≤_, _<_}
 use native.Mathlib.Nat.{lt-of-not-le}
@@ -28,3 +28,7 @@ first-chosen false a b c e f = absurd (f e)
 pub second-chosen : {A : Type 0} (t : Bool) (a b c : A) → cond t a b ≡ c → (a ≡ c → ⊥) → (t ≡ false) × (b ≡ c)
 second-chosen true a b c e f = absurd (f e)
 second-chosen false a b c e f = (refl, e)
+
+pub both-true : (a b : Bool) → (a && b) ≡ true → (a ≡ true) × (b ≡ true)
+both-true true b e = (refl, e)
+both-true false b e = absurd (false≢true e)

@@ -1,15 +1,13 @@
 -- Reading a CAN ID that was made gives the header back, for each kind.
 use mathlib.Core.Path.{_≡_, refl, sym, ap, _∙_}
-use mathlib.Core.Bool.{Bool, true, false, cond}
-use mathlib.Core.Logic.{⊎-elim}
+use mathlib.Core.Bool.{Bool, true, false, cond, _&&_}
 use mathlib.Core.List.{List}
 use Prim.Native.Nat.{ℕ, _+_, _*_, _^_, _≤_, _<_}
 use native.Mathlib.Omega.{arith}
 use lib.Dec.{leb}
-use borrow.Author.Tests.{le-leb, lt-leb}
-use Rattle.laws.proofs.Choose.{at-most-or-above}
+use borrow.Author.Tests.{le-leb, leb-true}
+use Rattle.laws.proofs.Choose.{both-true}
 use Rattle.laws.proofs.Bits.{field-of, flag-le, flag-read}
-use Rattle.rules.specs.declared.refusal.Refusal.the-variants.{Field}
 use Rattle.rules.specs.declared.types.Priority.{Priority}
 use Rattle.rules.specs.declared.types.SubjectId.{SubjectId}
 use Rattle.rules.specs.declared.types.ServiceId.{ServiceId}
@@ -17,15 +15,13 @@ use Rattle.rules.specs.declared.types.CanNodeId.{CanNodeId}
 use Rattle.rules.specs.declared.data.CanId.{CanId as Id}
 use Rattle.rules.specs.declared.header.Source.{Source}
 use Rattle.rules.specs.declared.header.Source.the-variants.{Node, Anonymous}
-use Rattle.rules.specs.declared.header.MessageHeader.{MessageHeader}
 use Rattle.rules.specs.declared.header.ServiceHeader.{ServiceHeader}
 use Rattle.rules.specs.declared.header.Header.{Header}
 use Rattle.rules.specs.declared.header.Header.the-variants.{Message, Request, Response}
-use Rattle.rules.specs.declared.header.MadeCanId.{MadeCanId}
-use Rattle.rules.specs.declared.header.MadeCanId.the-variants.{Made, Refused}
+use Rattle.rules.specs.declared.header.MadeCanId.the-variants.{Made}
 use Rattle.rules.specs.declared.header.ParsedCanId.the-variants.{Parsed}
 use Rattle.rules.specs.Limits.{greatestPriority, greatestSubject, greatestService, greatestNode, greatestCanId}
-use Rattle.rules.specs.CanId.{bit, messageId, serviceId, pseudoSource, messageCanId, serviceCanId, canIdOf, bitsAt, parsedCanId}
+use Rattle.rules.specs.CanId.{bit, messageId, serviceId, pseudoSource, madeWhere, messageMade, serviceMade, messageFrom, serviceFrom, canIdOf, bitsAt, parsedCanId}
 
 -- the kind of a service transfer
 abbrev kind : Bool → ServiceHeader → Header
@@ -69,53 +65,46 @@ service-read p s d n r hp hs hd hn =
     let source = field-of id (p * 2 ^ 19 + 2 ^ 18 + b * 2 ^ 17 + s * 2 ^ 7 + d) n 0 0 7 (omega arith) (omega arith) (omega arith) in
     simp (le-leb _ _ small, bit23, bit25, bit24, priority, service, destination, source)
 
--- ---- any header of which a CAN ID was made: its fields are within their limits
+-- ---- any header of which a CAN ID was made
 
-module _ (id : Id) where
-  in-limits : (greatest n : ℕ) (m : MadeCanId) → cond (leb n greatest) m (Refused Field) ≡ Made id → (n ≤ greatest) × (m ≡ Made id)
-  in-limits greatest n m e =
-      ⊎-elim (λ (h : n ≤ greatest). (h, rw (le-leb _ _ h) at e))
-      (λ (h : greatest < n). let f : Refused Field ≡ Made id = rw (lt-leb _ _ h) at e in absurd (not-made f)) (at-most-or-above n greatest)
-    where
-      not-made : Refused Field ≡ Made id → ⊥
-      not-made e = let z : _≡_ {A = ℕ} 0 1 = cc in omega arith
+-- the ID that was made, and that every field was within its limit
+made-where : (id : Id) (valid : Bool) (n : ℕ) → madeWhere valid n ≡ Made id → (valid ≡ true) × (id .0 ≡ n)
+made-where id true n e = let f : id ≡ record { 0 = n } = cc in (refl, ap (λ (i : Id). i .0) f)
+made-where id false n e = let z : _≡_ {A = ℕ} 0 1 = cc in absurd (omega arith)
 
-  is : (n : ℕ) → Made (record { 0 = n }) ≡ Made id → id .0 ≡ n
-  is n e = let f : id ≡ record { 0 = n } = cc in ap (λ (i : Id). i .0) f
+message-back : (id : Id) (p s n : ℕ) (a : Bool) → messageMade p s n a ≡ Made id
+    → parsedCanId (id .0)
+    ≡ Parsed (Message (record { priority = record { 0 = p }; subject = record { 0 = s }; source = cond a Anonymous (Node (record { 0 = n })) }))
+message-back id p s n a e =
+    let m = made-where id (leb p greatestPriority && leb s greatestSubject && leb n greatestNode) (messageId p s n a) e in
+    let bs = both-true (leb p greatestPriority && leb s greatestSubject) (leb n greatestNode) (m .0) in
+    let ps = both-true (leb p greatestPriority) (leb s greatestSubject) (bs .0) in
+    ap parsedCanId (m .1) ∙ message-read p s n a (leb-true _ _ (ps .0)) (leb-true _ _ (ps .1)) (leb-true _ _ (bs .1))
 
-  message-back : (p : Priority) (s : SubjectId) (o : Source) (payload : List ℕ)
-      → messageCanId (record { priority = p; subject = s; source = o }) payload ≡ Made id
-      → parsedCanId (id .0) ≡ Parsed (Message (record { priority = p; subject = s; source = o }))
-  unfolding messageCanId
-  message-back p s Anonymous payload e =
-      let a = in-limits greatestPriority (p .0) _ e in
-      let b = in-limits greatestSubject (s .0) _ (a .1) in
-      ap parsedCanId (is _ (b .1)) ∙ message-read (p .0) (s .0) (pseudoSource payload) true (a .0) (b .0) (omega arith)
-  message-back p s (Node n) payload e =
-      let a = in-limits greatestPriority (p .0) _ e in
-      let b = in-limits greatestSubject (s .0) _ (a .1) in
-      let c = in-limits greatestNode (n .0) _ (b .1) in
-      ap parsedCanId (is _ (c .1)) ∙ message-read (p .0) (s .0) (n .0) false (a .0) (b .0) (c .0)
+service-back : (id : Id) (p s d n : ℕ) (r : Bool) → serviceMade p s d n r ≡ Made id
+    → parsedCanId (id .0)
+    ≡ Parsed (kind r (record { priority = record { 0 = p }; service = record { 0 = s }; destination = record { 0 = d }; source = Node (record { 0 = n }) }))
+service-back id p s d n r e =
+    let m = made-where id (leb p greatestPriority && leb s greatestService && leb d greatestNode && leb n greatestNode) (serviceId p s d n r) e in
+    let bs = both-true (leb p greatestPriority && leb s greatestService && leb d greatestNode) (leb n greatestNode) (m .0) in
+    let cs = both-true (leb p greatestPriority && leb s greatestService) (leb d greatestNode) (bs .0) in
+    let ps = both-true (leb p greatestPriority) (leb s greatestService) (cs .0) in
+    ap parsedCanId (m .1) ∙ service-read p s d n r (leb-true _ _ (ps .0)) (leb-true _ _ (ps .1)) (leb-true _ _ (cs .1)) (leb-true _ _ (bs .1))
 
-  service-back : (p : Priority) (s : ServiceId) (d : CanNodeId) (o : Source) (request : Bool)
-      → serviceCanId (record { priority = p; service = s; destination = d; source = o }) request ≡ Made id
-      → parsedCanId (id .0) ≡ Parsed (kind request (record { priority = p; service = s; destination = d; source = o }))
-  unfolding serviceCanId
-  service-back p s d Anonymous request e =
-      let a = in-limits greatestPriority (p .0) _ e in
-      let b = in-limits greatestService (s .0) _ (a .1) in
-      let c = in-limits greatestNode (d .0) _ (b .1) in
-      let z : _≡_ {A = ℕ} 0 1 = cc in
-      absurd (omega arith)
-  service-back p s d (Node n) request e =
-      let a = in-limits greatestPriority (p .0) _ e in
-      let b = in-limits greatestService (s .0) _ (a .1) in
-      let c = in-limits greatestNode (d .0) _ (b .1) in
-      let g = in-limits greatestNode (n .0) _ (c .1) in
-      ap parsedCanId (is _ (g .1)) ∙ service-read (p .0) (s .0) (d .0) (n .0) request (a .0) (b .0) (c .0) (g .0)
+-- by the source, since a header's fields are what they are
+message-from : (id : Id) (p : Priority) (s : SubjectId) (o : Source) (payload : List ℕ) → messageFrom o (p .0) (s .0) payload ≡ Made id
+    → parsedCanId (id .0) ≡ Parsed (Message (record { priority = p; subject = s; source = o }))
+message-from id p s (Node n) payload e = message-back id (p .0) (s .0) (n .0) false e
+message-from id p s Anonymous payload e = message-back id (p .0) (s .0) (pseudoSource payload) true e
+
+service-from : (id : Id) (p : Priority) (s : ServiceId) (d : CanNodeId) (o : Source) (r : Bool) → serviceFrom o (p .0) (s .0) (d .0) r ≡ Made id
+    → parsedCanId (id .0) ≡ Parsed (kind r (record { priority = p; service = s; destination = d; source = o }))
+service-from id p s d (Node n) r e = service-back id (p .0) (s .0) (d .0) (n .0) r e
+service-from id p s d Anonymous r e = let z : _≡_ {A = ℕ} 0 1 = cc in absurd (omega arith)
 
 -- READING AN ID THAT WAS MADE gives the header back
 pub read-back : (h : Header) (payload : List ℕ) (id : Id) → canIdOf h payload ≡ Made id → parsedCanId (id .0) ≡ Parsed h
-read-back (Message h) payload id e = message-back id (h .priority) (h .subject) (h .source) payload e
-read-back (Request h) payload id e = service-back id (h .priority) (h .service) (h .destination) (h .source) true e
-read-back (Response h) payload id e = service-back id (h .priority) (h .service) (h .destination) (h .source) false e
+unfolding canIdOf
+read-back (Message h) payload id e = message-from id (h .priority) (h .subject) (h .source) payload e
+read-back (Request h) payload id e = service-from id (h .priority) (h .service) (h .destination) (h .source) true e
+read-back (Response h) payload id e = service-from id (h .priority) (h .service) (h .destination) (h .source) false e

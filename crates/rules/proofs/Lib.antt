@@ -1,5 +1,4 @@
 pub mod Crc
-pub mod Limits
 pub mod CanId
 pub mod TailByte
 pub mod Plan

@@ -41,6 +41,10 @@ full-length CanFd64 = refl
 
 -- ---- the plan
 
+pub size-bounds : (u : Mtu) → (8 ≤ sizeOf u) × (sizeOf u ≤ 64)
+size-bounds Can8 = (omega arith, omega arith)
+size-bounds CanFd64 = (omega arith, omega arith)
+
 pub crc-length-le : (u : Mtu) (p : ℕ) → crcLength u p ≤ 2
 crc-length-le u p = either-way (λ (n : ℕ). n ≤ 2) (leb p (roomOf u)) (omega arith) (omega arith)
 

@@ -41,38 +41,35 @@ xorAll x (b ∷ bs) = xorAll (bitXor x b) bs
 abbrev pub pseudoSource : List ℕ → ℕ
 pseudoSource payload = min (greatestNode - 2) (xorAll 0x55 payload % nodes)
 
--- a field within its limit goes on; one over it is refusal 12
-abbrev pub within : ℕ → ℕ → (ℕ → MadeCanId) → MadeCanId
-within greatest n made = cond (leb n greatest) (made n) (Refused Field)
+-- an ID is made where every field is within its limit; otherwise refusal 12
+abbrev pub madeWhere : Bool → ℕ → MadeCanId
+madeWhere valid id = cond valid (Made (record { 0 = id })) (Refused Field)
 
--- a message goes out under its node, or under the pseudo source of its payload and marked anonymous
-abbrev pub fromSender : Source → List ℕ → (ℕ → Bool → MadeCanId) → MadeCanId
-fromSender (Node n) payload made = within greatestNode (n .0) (λ source. made source false)
-fromSender Anonymous payload made = made (pseudoSource payload) true
+abbrev pub messageMade : ℕ → ℕ → ℕ → Bool → MadeCanId
+messageMade priority subject source anonymous =
+    madeWhere (leb priority greatestPriority && leb subject greatestSubject && leb source greatestNode) (messageId priority subject source anonymous)
+
+abbrev pub serviceMade : ℕ → ℕ → ℕ → ℕ → Bool → MadeCanId
+serviceMade priority service destination source request =
+    madeWhere (leb priority greatestPriority && leb service greatestService && leb destination greatestNode && leb source greatestNode)
+    (serviceId priority service destination source request)
+
+-- a message goes out under its node, or under the pseudo source of its payload, marked anonymous
+abbrev pub messageFrom : Source → ℕ → ℕ → List ℕ → MadeCanId
+messageFrom (Node n) priority subject payload = messageMade priority subject (n .0) false
+messageFrom Anonymous priority subject payload = messageMade priority subject (pseudoSource payload) true
 
 -- a service transfer with no source is refusal 12
-abbrev pub fromNode : Source → (ℕ → MadeCanId) → MadeCanId
-fromNode (Node n) made = within greatestNode (n .0) made
-fromNode Anonymous made = Refused Field
+abbrev pub serviceFrom : Source → ℕ → ℕ → ℕ → Bool → MadeCanId
+serviceFrom (Node n) priority service destination request = serviceMade priority service destination (n .0) request
+serviceFrom Anonymous priority service destination request = Refused Field
 
-unfoldable pub messageCanId : MessageHeader → List ℕ → MadeCanId
-messageCanId h payload =
-    within greatestPriority (h .priority .0) (λ priority.
-    within greatestSubject (h .subject .0) (λ subject.
-    fromSender (h .source) payload (λ source anonymous.
-    Made (record { 0 = messageId priority subject source anonymous }))))
-
-unfoldable pub serviceCanId : ServiceHeader → Bool → MadeCanId
-serviceCanId h request =
-    within greatestPriority (h .priority .0) (λ priority.
-    within greatestService (h .service .0) (λ service.
-    within greatestNode (h .destination .0) (λ destination.
-    fromNode (h .source) (λ source.
-    Made (record { 0 = serviceId priority service destination source request })))))
+abbrev pub serviceCanId : ServiceHeader → Bool → MadeCanId
+serviceCanId h request = serviceFrom (h .source) (h .priority .0) (h .service .0) (h .destination .0) request
 
 -- the CAN ID under which a transfer with this header and payload is sent
-abbrev pub canIdOf : Header → List ℕ → MadeCanId
-canIdOf (Message h) payload = messageCanId h payload
+unfoldable pub canIdOf : Header → List ℕ → MadeCanId
+canIdOf (Message h) payload = messageFrom (h .source) (h .priority .0) (h .subject .0) payload
 canIdOf (Request h) payload = serviceCanId h true
 canIdOf (Response h) payload = serviceCanId h false
 
@@ -109,6 +106,10 @@ serviceHeaderOf id =
 abbrev pub headerOf : ℕ → Header
 headerOf id = cond (isSet id 25) (cond (isSet id 24) (Request (serviceHeaderOf id)) (Response (serviceHeaderOf id))) (Message (messageHeaderOf id))
 
--- a CAN ID as it is received: 2^29 or more is refusal 1, a reserved bit refusal 4
+-- what an ID says: a reserved bit is refusal 4
+abbrev pub saidBy : ℕ → ParsedCanId
+saidBy id = cond (reserved id) (NotParsed ReservedBit) (Parsed (headerOf id))
+
+-- a CAN ID as it is received: 2^29 or more is refusal 1
 unfoldable pub parsedCanId : ℕ → ParsedCanId
-parsedCanId id = cond (leb id greatestCanId) (cond (reserved id) (NotParsed ReservedBit) (Parsed (headerOf id))) (NotParsed CanIdTooLarge)
+parsedCanId id = cond (leb id greatestCanId) (saidBy id) (NotParsed CanIdTooLarge)

@@ -46,6 +46,9 @@ frames u p = upTo (total u p) (sizeOf u)
 unfoldable pub padding : Mtu → ℕ → ℕ
 padding u p = nextLength (total u p % sizeOf u) - total u p % sizeOf u
 
+abbrev pub statsOf : Mtu → ℕ → FrameStats
+statsOf u p = record { frames = frames u p; «last_frame_padding» = padding u p }
+
 -- the plan for a payload of p bytes; one over the greatest is refusal 10
 abbrev pub planned : Mtu → ℕ → Planned
-planned u p = cond (leb p greatestPayload) (Stats (record { frames = frames u p; «last_frame_padding» = padding u p })) (Refused PayloadTooLong)
+planned u p = cond (leb p greatestPayload) (Stats (statsOf u p)) (Refused PayloadTooLong)

@@ -1,7 +1,8 @@
 // Frames and their sizes, after data.rs, and the other limits of document 01's domain.
 use crate::refusal::Refusal;
 ghost use mathlib.Core.Path.{_≡_};
-ghost use Rattle.rules.specs.Limits.{triedCanId, triedMtu, sizeOf};
+ghost use lib.Dec.{leb};
+ghost use Rattle.rules.specs.Limits.{greatestCanId, triedCanId, triedMtu, sizeOf};
 
 // The greatest number of bytes in a frame.
 pub const FRAME_CAPACITY: usize = 64;
@@ -33,6 +34,16 @@ impl CanId {
             return TriedCanId::Refused(Refusal::CanId);
         }
         TriedCanId::Valid(CanId(value))
+    }
+
+    // Whether the constructor takes the number that stands here.
+    pub fn is_valid(self) -> bool
+        ensures { λ r. ⌜ r ≡ leb (self .0) greatestCanId ⌝ }
+    {
+        match CanId::try_from(self.0) {
+            TriedCanId::Valid(_) => true,
+            TriedCanId::Refused(_) => false,
+        }
     }
 }
 

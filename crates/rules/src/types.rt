@@ -1,7 +1,8 @@
 // The kinds of number, after types.rs. Any number can stand in one; the constructor of its kind judges it, and a number over the greatest is refusal 12.
 use crate::refusal::Refusal;
 ghost use mathlib.Core.Path.{_≡_};
-ghost use Rattle.rules.specs.Limits.{triedPriority, triedSubject, triedService, triedNode, triedTransferId, truncated, isReserved, incremented};
+ghost use lib.Dec.{leb};
+ghost use Rattle.rules.specs.Limits.{greatestPriority, greatestSubject, greatestService, greatestNode, greatestTransferId, triedPriority, triedSubject, triedService, triedNode, triedTransferId, truncated, isReserved, incremented};
 
 pub struct Priority(pub u8);
 
@@ -49,6 +50,16 @@ impl Priority {
         }
         TriedPriority::Valid(Priority(value))
     }
+
+    // Whether the constructor takes the number that stands here.
+    pub fn is_valid(self) -> bool
+        ensures { λ r. ⌜ r ≡ leb (self .0) greatestPriority ⌝ }
+    {
+        match Priority::try_from(self.0) {
+            TriedPriority::Valid(_) => true,
+            TriedPriority::Refused(_) => false,
+        }
+    }
 }
 
 impl SubjectId {
@@ -61,6 +72,16 @@ impl SubjectId {
             return TriedSubjectId::Refused(Refusal::Field);
         }
         TriedSubjectId::Valid(SubjectId(value))
+    }
+
+    // Whether the constructor takes the number that stands here.
+    pub fn is_valid(self) -> bool
+        ensures { λ r. ⌜ r ≡ leb (self .0) greatestSubject ⌝ }
+    {
+        match SubjectId::try_from(self.0) {
+            TriedSubjectId::Valid(_) => true,
+            TriedSubjectId::Refused(_) => false,
+        }
     }
 }
 
@@ -75,6 +96,16 @@ impl ServiceId {
         }
         TriedServiceId::Valid(ServiceId(value))
     }
+
+    // Whether the constructor takes the number that stands here.
+    pub fn is_valid(self) -> bool
+        ensures { λ r. ⌜ r ≡ leb (self .0) greatestService ⌝ }
+    {
+        match ServiceId::try_from(self.0) {
+            TriedServiceId::Valid(_) => true,
+            TriedServiceId::Refused(_) => false,
+        }
+    }
 }
 
 impl CanNodeId {
@@ -87,6 +118,16 @@ impl CanNodeId {
             return TriedCanNodeId::Refused(Refusal::Field);
         }
         TriedCanNodeId::Valid(CanNodeId(value))
+    }
+
+    // Whether the constructor takes the number that stands here.
+    pub fn is_valid(self) -> bool
+        ensures { λ r. ⌜ r ≡ leb (self .0) greatestNode ⌝ }
+    {
+        match CanNodeId::try_from(self.0) {
+            TriedCanNodeId::Valid(_) => true,
+            TriedCanNodeId::Refused(_) => false,
+        }
     }
 
     // The low seven bits of any number, as a node.
@@ -114,6 +155,16 @@ impl CanTransferId {
             return TriedCanTransferId::Refused(Refusal::Field);
         }
         TriedCanTransferId::Valid(CanTransferId(value))
+    }
+
+    // Whether the constructor takes the number that stands here.
+    pub fn is_valid(self) -> bool
+        ensures { λ r. ⌜ r ≡ leb (self .0) greatestTransferId ⌝ }
+    {
+        match CanTransferId::try_from(self.0) {
+            TriedCanTransferId::Valid(_) => true,
+            TriedCanTransferId::Refused(_) => false,
+        }
     }
 
     // The transfer ID after this one: one more, and 0 after the greatest.

@@ -7,7 +7,7 @@ use native.Mathlib.Omega.{arith}
 use mir.Val.{boolByte}
 use lib.Dec.{eqb}
 use borrow.Author.Tests.{eq-eqb, ne-eqb}
-use lib.Pow.{split, high, low}
+use lib.Pow.{split, high, low, shr-shr}
 use lib.Bits.{bitOr, or-shifted}
 
 -- c has no digit below k, and d none from k on
@@ -20,6 +20,10 @@ join k a b c d p q hc hd =
 pub field-of : (n hi x lo p k : ℕ) → n ≡ (hi * 2 ^ k + x) * 2 ^ p + lo → x < 2 ^ k → lo < 2 ^ p → n / 2 ^ p % 2 ^ k ≡ x
 field-of n hi x lo p k e hx hl =
     ap (λ (m : ℕ). m / 2 ^ p % 2 ^ k) e ∙ ap (λ (m : ℕ). m % 2 ^ k) (high (hi * 2 ^ k + x) p hl) ∙ low hi k hx
+
+-- what stands from bit p on is what stands from bit p + k on, and the k bits below it
+pub split-off : (n p k : ℕ) → n / 2 ^ p ≡ n / 2 ^ (p + k) * 2 ^ k + n / 2 ^ p % 2 ^ k
+split-off n p k = sym (split (n / 2 ^ p) k) ∙ ap (λ (m : ℕ). m * 2 ^ k + n / 2 ^ p % 2 ^ k) (shr-shr n p k)
 
 -- a flag as a number: what the machine makes of it, and the choice of 1 or 0
 pub flag : (b : Bool) → boolByte b ≡ cond b 1 0

@@ -1,5 +1,6 @@
 pub mod Crc
 pub mod CanId
+pub mod SentAgain
 pub mod TailByte
 pub mod Plan
 pub mod Transfer

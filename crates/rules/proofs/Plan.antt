@@ -2,8 +2,9 @@
 use mathlib.Core.Path.{_≡_, refl, sym, ap, _∙_, subst}
 use mathlib.Core.Bool.{Bool, true, false, cond, _&&_}
 use mathlib.Core.Logic.{⊎-elim}
-use Prim.Native.Nat.{ℕ, _+_, _-_, _*_, _/_, _%_, _≤_, _<_, max}
+use Prim.Native.Nat.{ℕ, _+_, _-_, _*_, _/_, _%_, _^_, _≤_, _<_, max}
 use native.Mathlib.Omega.{arith}
+use lib.ListN.{length}
 use lib.Dec.{T, leb, eqb, leb→le, eqb→eq}
 use borrow.Author.Tests.{le-leb, lt-leb}
 use Rattle.laws.proofs.Choose.{at-most-or-above, either-way}
@@ -11,7 +12,11 @@ use Rattle.laws.proofs.Tables.{below}
 use Rattle.rules.specs.declared.data.Mtu.{Mtu}
 use Rattle.rules.specs.declared.data.Mtu.the-variants.{Can8, CanFd64}
 use Rattle.rules.specs.Limits.{sizeOf, roomOf}
-use Rattle.rules.specs.Plan.{nextLength, crcLength, tails, total, frames, padding}
+use Rattle.rules.specs.Plan.{validLengths, nextLength, crcLength, tails, total, frames, padding}
+
+-- a data length code has four bits, and each says a length
+codes : length validLengths ≡ 2 ^ 4
+codes = refl
 
 -- ---- raising a length
 

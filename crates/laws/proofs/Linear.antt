@@ -1,12 +1,12 @@
 -- Functions that keep the sum without carry: two of them are equal when they are equal at the powers of two.
-use mathlib.Core.Path.{_≡_, refl, sym, ap, ap₂, _∙_, subst}
+use mathlib.Core.Path.{_≡_, refl, sym, ap, ap₂, _∙_}
 use mathlib.Core.Logic.{⊎-elim}
-use Prim.Native.Nat.{ℕ, zero, suc, _+_, _-_, _*_, _/_, _%_, _^_, _≤_, _<_}
+use Prim.Native.Nat.{ℕ, zero, suc, _-_, _*_, _/_, _%_, _^_, _≤_, _<_}
 use native.Mathlib.Nat.{add-zero, one-mul, pow-suc}
 use native.Mathlib.Omega.{arith}
-use lib.Dec.{T, eqb, eqb→eq, lit<}
+use lib.Dec.{T, eqb, eqb→eq}
 use lib.Pow.{pow-pos}
-use lib.Bits.{bitXor, xor-block, xor-self, xor-shr, xor-mod, xor-shifted, xor-comm}
+use lib.Bits.{bitXor, xor-block, xor-self, xor-shr, xor-mod, xor-shifted}
 use Rattle.laws.specs.Tables.{allBelow}
 use Rattle.laws.specs.Xor.{KeepsXor}
 use Rattle.laws.proofs.Tables.{first-holds, second-holds}

@@ -1,11 +1,11 @@
 -- Laws of the sum without carry that the library lacks.
-use mathlib.Core.Path.{_≡_, refl, sym, ap, ap₂, _∙_}
-use Prim.Native.Nat.{ℕ, zero, suc, _+_, _*_, _/_, _%_, _<_}
-use native.Mathlib.Nat.{div-add-mod', mod-lt}
+use mathlib.Core.Path.{_≡_, refl, sym, ap, _∙_}
+use Prim.Native.Nat.{ℕ, zero, suc, _/_, _%_, _<_}
+use native.Mathlib.Nat.{mod-lt}
 use native.Mathlib.Omega.{arith}
 use lib.Arith.{bin-ind}
 use lib.Dec.{lit<}
-use lib.Bits.{bitXor, xor-shr, xor-mod, xor-comm, xor-self, xor-zero-r}
+use lib.Bits.{bitXor, xor-shr, xor-mod, xor-comm, xor-self}
 
 bits-assoc : (a b c : ℕ) → a < 2 → b < 2 → c < 2 → bitXor (bitXor a b) c ≡ bitXor a (bitXor b c)
 bits-assoc zero b c ha hb hc = refl

@@ -10,7 +10,7 @@ use borrow.Author.Tests.{le-leb, lt-leb}
 use lib.Dec.{T, lit<, eqb, T-not}
 use lib.ListN.{length, getD}
 use lib.Pow.{pow-pos, split}
-use lib.Bits.{bitXor, xor-block, xor-self, xor-zero-r, xor-comm, xor-lt, xor-shr, xor-mod, xor-shifted}
+use lib.Bits.{bitXor, xor-block, xor-self, xor-zero-r, xor-lt, xor-shr, xor-mod}
 use Rattle.laws.proofs.Choose.{at-most-or-above}
 use Rattle.laws.proofs.Tables.{below}
 use Rattle.laws.proofs.Xor.{xor-assoc, xor-right, xor-twice}

@@ -1,11 +1,10 @@
 -- Laws of the frame plan: as many frames as tails; payload, padding and CRC fill all frames but the last, and fit them; the last has a length that CAN FD has.
-use mathlib.Core.Path.{_≡_, refl, sym, ap, _∙_, subst}
-use mathlib.Core.Bool.{Bool, true, false, cond, _&&_}
+use mathlib.Core.Path.{_≡_, refl, sym, ap, _∙_}
 use mathlib.Core.Logic.{⊎-elim}
-use Prim.Native.Nat.{ℕ, _+_, _-_, _*_, _/_, _%_, _^_, _≤_, _<_, max}
+use Prim.Native.Nat.{ℕ, _+_, _-_, _*_, _%_, _^_, _≤_, _<_}
 use native.Mathlib.Omega.{arith}
 use lib.ListN.{length}
-use lib.Dec.{T, leb, eqb, leb→le, eqb→eq}
+use lib.Dec.{leb, eqb, leb→le, eqb→eq}
 use borrow.Author.Tests.{le-leb, lt-leb}
 use Rattle.laws.proofs.Choose.{at-most-or-above, either-way}
 use Rattle.laws.proofs.Tables.{below}

@@ -1,8 +1,8 @@
 -- Laws of the published rule: how many frames, that their bytes before the tails join to payload, padding and CRC, and how long each is.
-use mathlib.Core.Path.{_≡_, refl, sym, ap, ap₂, _∙_}
+use mathlib.Core.Path.{_≡_, refl, ap, ap₂, _∙_}
 use mathlib.Core.Bool.{Bool, true, false, not}
 use mathlib.Core.Logic.{⊎-elim}
-use mathlib.Core.List.{List, [], _∷_, _++_, append-nil, append-assoc, flatMap}
+use mathlib.Core.List.{List, [], _∷_, _++_, append-nil, flatMap}
 use Prim.Native.Nat.{ℕ, zero, suc, _+_, _-_, _*_, _≤_, _<_}
 use native.Mathlib.Nat.{suc-mul, zero-mul, le-of-suc-le-suc, not-suc-le-zero}
 use native.Mathlib.Omega.{arith}
@@ -16,7 +16,7 @@ use Rattle.rules.specs.Limits.{sizeOf, roomOf}
 use Rattle.rules.specs.Crc.{crcStart, crcFrom, crc, crcBytes}
 use Rattle.rules.specs.TailByte.{tailByte}
 use Rattle.rules.specs.Plan.{nextLength, crcLength, frames, padding}
-use Rattle.rules.specs.Transfer.{padded, withCrc, content, carried, tailed, cut, framesOf}
+use Rattle.rules.specs.Transfer.{withCrc, content, carried, tailed, cut, framesOf}
 use Rattle.rules.proofs.Crc.{residue}
 use Rattle.rules.proofs.Plan.{full-length, alone, several, needed, lastLength, last-frame}
 

@@ -1,7 +1,7 @@
 -- The transfer CRC, CRC-16/CCITT-FALSE: a register of 16 bits, 0xFFFF at first; polynomial 0x1021; unreflected; nothing added at the end.
 -- Sums are without carry, digit by digit.
 use Prim.Native.Nat.{ℕ, zero, suc, _*_, _/_, _%_, _^_}
-use mathlib.Core.Bool.{Bool, cond}
+use mathlib.Core.Bool.{cond}
 use mathlib.Core.List.{List, [], _∷_}
 use lib.Dec.{leb}
 use lib.Bits.{bitXor}

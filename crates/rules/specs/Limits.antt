@@ -1,7 +1,7 @@
 -- The kinds of number and their limits. Document 01: "Named limits belong to their own kinds of number: priority 0 to 7, subject 0 to 8191, service 0 to 511,
 -- node 0 to 127, transfer ID 0 to 31." A CAN ID has 29 bits. MTU 8 or 64; payload and extent 0 to 1,024 bytes; queue capacity 0 to 256 frames.
 use Prim.Native.Nat.{ℕ, _+_, _-_, _%_, _^_}
-use mathlib.Core.Bool.{Bool, true, false, cond}
+use mathlib.Core.Bool.{Bool, cond}
 use lib.Dec.{leb, eqb}
 use Rattle.rules.specs.declared.refusal.Refusal.the-variants.{CanId as CanIdTooLarge, Field, Mtu as WrongMtu}
 use Rattle.rules.specs.declared.types.CanNodeId.{CanNodeId}

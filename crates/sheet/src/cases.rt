@@ -16,7 +16,7 @@ use rules::types::ServiceId;
 use rules::types::SubjectId;
 
 // The plan; none, no frames at all, for a payload over the limit.
-pub fn plan(payload_length: usize, mtu: Mtu) -> FrameStats {
+pub(crate) fn plan(payload_length: usize, mtu: Mtu) -> FrameStats {
     match wire::calculate_frame_stats(payload_length, mtu) {
         Planned::Stats(stats) => stats,
         Planned::Refused(_) => FrameStats {
@@ -43,7 +43,7 @@ fn last(payload_length: usize, mtu: Mtu, size: u64) -> u64 {
     if size == 0 { 0 } else { all % size }
 }
 
-pub fn plan_at_64(tally: Tally) -> Tally {
+pub(crate) fn plan_at_64(tally: Tally) -> Tally {
     let fd = Mtu::CanFd64;
     let a = print::row(
         tally,
@@ -89,7 +89,7 @@ pub fn plan_at_64(tally: Tally) -> Tally {
     )
 }
 
-pub fn plan_at_8(tally: Tally) -> Tally {
+pub(crate) fn plan_at_8(tally: Tally) -> Tally {
     let can = Mtu::Can8;
     let a = print::row(
         tally,
@@ -123,7 +123,7 @@ pub fn plan_at_8(tally: Tally) -> Tally {
 }
 
 // Case 3: the payload, its padding and the tail byte make the frame of the sheet.
-pub fn one_frame(tally: Tally) -> Tally {
+pub(crate) fn one_frame(tally: Tally) -> Tally {
     let payload = [1u8, 2, 3, 4, 5, 6, 7, 8, 9];
     let wanted = [1u8, 2, 3, 4, 5, 6, 7, 8, 9, 0, 0, 0xE3];
     let mut frame = [0u8; 12];
@@ -155,14 +155,14 @@ pub fn one_frame(tally: Tally) -> Tally {
 }
 
 // The CAN ID of a header, or a number that is none.
-pub fn id_of(header: Header, payload: &[u8]) -> u64 {
+pub(crate) fn id_of(header: Header, payload: &[u8]) -> u64 {
     match wire::tx::make_can_id(header, payload) {
         MadeCanId::Made(id) => id.0 as u64,
         MadeCanId::Refused(refusal) => std::num::wrapping_sub_u64(0, refusal.number() as u64),
     }
 }
 
-pub fn message(priority: u8, subject: u16, source: Source) -> Header {
+pub(crate) fn message(priority: u8, subject: u16, source: Source) -> Header {
     Header::Message(MessageHeader {
         priority: Priority(priority),
         subject: SubjectId(subject),
@@ -170,7 +170,7 @@ pub fn message(priority: u8, subject: u16, source: Source) -> Header {
     })
 }
 
-pub fn service(priority: u8, service: u16, destination: u8, source: u8) -> ServiceHeader {
+pub(crate) fn service(priority: u8, service: u16, destination: u8, source: u8) -> ServiceHeader {
     ServiceHeader {
         priority: Priority(priority),
         service: ServiceId(service),
@@ -179,7 +179,7 @@ pub fn service(priority: u8, service: u16, destination: u8, source: u8) -> Servi
     }
 }
 
-pub fn can_ids(tally: Tally) -> Tally {
+pub(crate) fn can_ids(tally: Tally) -> Tally {
     let scan = message(4, 256, Source::Node(CanNodeId(42)));
     let info = service(1, 430, 5, 9);
     let a = print::row(
@@ -209,7 +209,7 @@ fn pseudo(payload: &[u8]) -> u64 {
     wire::tx::make_pseudo_id(payload).0 as u64
 }
 
-pub fn pseudo_sources(tally: Tally) -> Tally {
+pub(crate) fn pseudo_sources(tally: Tally) -> Tally {
     let a = print::row(
         tally,
         b"case 5, pseudo source of an empty payload",
@@ -222,11 +222,11 @@ pub fn pseudo_sources(tally: Tally) -> Tally {
     print::row(c, b"case 5, pseudo source of AB", 0, pseudo(b"\xAB"), 125)
 }
 
-pub fn crc_of(bytes: &[u8]) -> u64 {
+pub(crate) fn crc_of(bytes: &[u8]) -> u64 {
     crc::digest_bytes(crc::INITIAL, bytes) as u64
 }
 
-pub fn check_value(tally: Tally) -> Tally {
+pub(crate) fn check_value(tally: Tally) -> Tally {
     print::row(
         tally,
         b"case 14, CRC of the characters 123456789",

@@ -12,7 +12,7 @@ use rules::types::TriedCanTransferId;
 use tracker::CanTransferIdTracker;
 
 // Check values of CRC-16/CCITT-FALSE, also catalogued as CRC-16/IBM-3740.
-pub fn crc_vectors(tally: Tally) -> Tally {
+pub(crate) fn crc_vectors(tally: Tally) -> Tally {
     let a = print::row(tally, b"no bytes", 4, cases::crc_of(b""), 0xFFFF);
     let b = print::row(a, b"123456789", 4, cases::crc_of(b"123456789"), 0x29B1);
     print::row(b, b"A", 4, cases::crc_of(b"A"), 0xB915)
@@ -23,7 +23,7 @@ fn tail(start: bool, end: bool, toggle: bool, id: CanTransferId) -> u64 {
 }
 
 // Four heartbeats, subject 7509, from node 42, priority 4, transfer IDs 0 to 3: single frames of seven bytes and a tail.
-pub fn heartbeat(tally: Tally) -> Tally {
+pub(crate) fn heartbeat(tally: Tally) -> Tally {
     let header = cases::message(4, 7509, Source::Node(CanNodeId(42)));
     let first = CanTransferId(0);
     let second = first.increment();
@@ -93,7 +93,7 @@ fn between(id: u32) -> u64 {
 }
 
 // The node information request, service 430, from node 123 to node 42, priority 4, transfer ID 1, and its response's ID.
-pub fn node_information(tally: Tally) -> Tally {
+pub(crate) fn node_information(tally: Tally) -> Tally {
     let request = Header::Request(cases::service(4, 430, 42, 123));
     let response = Header::Response(cases::service(4, 430, 123, 42));
     let a = print::row(
@@ -127,7 +127,7 @@ pub fn node_information(tally: Tally) -> Tally {
 }
 
 // The response's 69 bytes in eleven frames of MTU 8, the CRC split between the last two.
-pub fn response_frames(tally: Tally) -> Tally {
+pub(crate) fn response_frames(tally: Tally) -> Tally {
     let payload =
         b"\x01\x00\x00\x00\x01\x00\x00\x00\x00\x00\x00\x00\x00\x00\x00\x00\x00\x00\x00\x00\x00\x00\x00\x00\x00\x00\x00\x00\x00\x00\x24\x6F\x72\x67\x2E\x75\x61\x76\x63\x61\x6E\x2E\x70\x79\x75\x61\x76\x63\x61\x6E\x2E\x64\x65\x6D\x6F\x2E\x62\x61\x73\x69\x63\x5F\x75\x73\x61\x67\x65\x00\x00";
     let id = CanTransferId(1);
@@ -191,7 +191,7 @@ fn given(answer: TriedCanTransferId) -> u64 {
 }
 
 // Destination 6 owns bits 30 to 34 of the row, which straddle two words. A row of ones has 31 for every destination.
-pub fn transfer_ids(tally: Tally) -> Tally {
+pub(crate) fn transfer_ids(tally: Tally) -> Tally {
     let fresh = CanTransferIdTracker::new().next_transfer_id(CanNodeId(6));
     let first = fresh.answer;
     let again = fresh.tracker.next_transfer_id(CanNodeId(6));

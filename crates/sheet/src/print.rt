@@ -1,18 +1,18 @@
 // What is printed, and how many rows were right.
 use libc::STDOUT_FILENO;
 
-pub struct Tally {
+pub(crate) struct Tally {
     pub right: u64,
     pub wrong: u64,
 }
 
-pub fn line(text: &[u8]) {
+pub(crate) fn line(text: &[u8]) {
     io::write_all(STDOUT_FILENO, text);
     io::write_all(STDOUT_FILENO, b"\n");
 }
 
 // A row: what was asked, what the code gives, and whether that is what was wanted. As many hexadecimal digits as told; none means decimal.
-pub fn row(tally: Tally, asked: &[u8], digits: usize, got: u64, wanted: u64) -> Tally {
+pub(crate) fn row(tally: Tally, asked: &[u8], digits: usize, got: u64, wanted: u64) -> Tally {
     io::write_all(STDOUT_FILENO, b"  ");
     io::write_all(STDOUT_FILENO, asked);
     io::write_all(STDOUT_FILENO, b": ");
@@ -41,7 +41,7 @@ fn number(digits: usize, n: u64) {
     }
 }
 
-pub fn total(tally: Tally) {
+pub(crate) fn total(tally: Tally) {
     io::print_decimal(STDOUT_FILENO, tally.right);
     io::write_all(STDOUT_FILENO, b" rows right, ");
     io::print_decimal(STDOUT_FILENO, tally.wrong);

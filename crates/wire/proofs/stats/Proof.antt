@@ -1,10 +1,8 @@
 -- The plan step by step; an MTU of 8 or 64 and a payload within its limit keep every number small.
-use mathlib.Core.Path.{_≡_}
 use Prim.Native.Nat.{ℕ, _+_, _%_, _<_}
 use native.Mathlib.Nat.{mod-lt}
 use native.Mathlib.Omega.{arith}
-use Rattle.rules.specs.Limits.{sizeOf}
-use Rattle.rules.specs.Plan.{tails, total, frames, padding}
+use Rattle.rules.specs.Plan.{tails, frames, padding}
 use Rattle.rules.proofs.Plan.{no-less, size-bounds, crc-length-le}
 use borrow.Author.Needs.{needs}
 use Rattle.wire.proofs.stats.Statement.{statement}

@@ -1,8 +1,7 @@
 -- Three flags and the low five bits do not overlap, so that they add up.
-use mathlib.Core.Path.{_≡_, _∙_}
+use mathlib.Core.Path.{_≡_}
 use Prim.Native.Nat.{ℕ, _+_, _*_, _%_, _≤_}
 use native.Mathlib.Omega.{arith}
-use mir.Val.{boolByte}
 use lib.Bits.{bitAnd, bitOr, and-mask}
 use Rattle.laws.proofs.Bits.{join, flag, flag-le}
 use Rattle.rules.specs.TailByte.{tailByte}

@@ -5,4 +5,6 @@ pub mod TailByte
 pub mod Plan
 pub mod Transfer
 pub mod Tracker
+pub mod Queue
+pub mod Sending
 pub mod Bench

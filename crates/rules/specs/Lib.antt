@@ -6,4 +6,7 @@ pub mod TailByte
 pub mod Plan
 pub mod Transfer
 pub mod Tracker
+pub mod Frames
+pub mod Queue
+pub mod Sending
 pub mod Bench

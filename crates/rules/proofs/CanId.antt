@@ -68,7 +68,7 @@ service-read p s d n r hp hs hd hn =
 -- ---- any header of which a CAN ID was made
 
 -- the ID that was made, and that every field was within its limit
-made-where : (id : Id) (valid : Bool) (n : ℕ) → madeWhere valid n ≡ Made id → (valid ≡ true) × (id .0 ≡ n)
+pub made-where : (id : Id) (valid : Bool) (n : ℕ) → madeWhere valid n ≡ Made id → (valid ≡ true) × (id .0 ≡ n)
 made-where id true n e = let f : id ≡ record { 0 = n } = cc in (refl, ap (λ (i : Id). i .0) f)
 made-where id false n e = let z : _≡_ {A = ℕ} 0 1 = cc in absurd (omega arith)
 

@@ -7,4 +7,5 @@ pub mod Transfer
 pub mod Tracker
 pub mod Queue
 pub mod Sending
+pub mod Judged
 pub mod Bench

@@ -32,6 +32,11 @@ again : (n : ℕ) → n < 65 → nextLength (nextLength n) ≡ nextLength n
 unfolding nextLength
 again n h = eqb→eq (nextLength (nextLength n)) (nextLength n) (below (λ (k : ℕ). eqb (nextLength (nextLength k)) (nextLength k)) 65 tt n h)
 
+-- no length is raised by more than 15
+no-long-rise : (n : ℕ) → n < 65 → nextLength n - n ≤ 15
+unfolding nextLength
+no-long-rise n h = leb→le (nextLength n - n) 15 (below (λ (k : ℕ). leb (nextLength k - k) 15) 65 tt n h)
+
 -- up to 8 bytes, every length is there
 every : (n : ℕ) → n < 9 → nextLength n ≡ n
 unfolding nextLength
@@ -127,3 +132,11 @@ last-frame CanFd64 p =
     let r = raised (p + crcLength CanFd64 p) (tails CanFd64 p) (b .0) (b .1) (b .2) in
     let e : lastLength CanFd64 p ≡ last (p + crcLength CanFd64 p) (tails CanFd64 p) (b .0) (b .1) (b .2) = omega arith in
     (omega arith, ap nextLength e ∙ r .1 ∙ sym e)
+
+-- the padding leaves room for the CRC's two bytes
+pub padding-small : (u : Mtu) (p : ℕ) → padding u p + 1 ≤ roomOf u
+unfolding padding
+padding-small Can8 p =
+    let none : nextLength (total Can8 p % 8) ≡ total Can8 p % 8 = every (total Can8 p % 8) (omega arith) in
+    omega arith
+padding-small CanFd64 p = omega (arith, no-long-rise (total CanFd64 p % 64) (omega arith))

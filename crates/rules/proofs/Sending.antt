@@ -1,7 +1,7 @@
 -- Laws of sending: the order is kept, equal IDs keep sending order, a send brings its frames and no others, and the counts count.
 use mathlib.Core.Path.{_≡_, refl, sym, ap, _∙_}
 use mathlib.Core.List.{List, [], _∷_, _++_, map, append-nil, append-assoc}
-use Prim.Native.Nat.{ℕ, suc, _+_}
+use Prim.Native.Nat.{ℕ, suc, _+_, _%_, _^_}
 use native.Mathlib.Omega.{arith}
 use lib.ListN.{length}
 use Rattle.rules.specs.declared.frame.Marks.{Marks}
@@ -9,7 +9,7 @@ use Rattle.rules.specs.declared.send.Judged.{Judged}
 use Rattle.rules.specs.declared.send.Judged.the-variants.{Goes, Refused}
 use Rattle.rules.specs.Frames.{Frame, frame}
 use Rattle.rules.specs.Queue.{pushed, Ordered, having}
-use Rattle.rules.specs.Sending.{allPushed, Counts, wrapped, counted, countedAll}
+use Rattle.rules.specs.Sending.{allPushed, Counts, counted, countedAll}
 use Rattle.rules.proofs.Queue.{push-ordered, push-last, push-others, push-length}
 
 module _ (marks : Marks) where
@@ -47,12 +47,12 @@ refusedOf (Goes o ∷ js) = refusedOf js
 refusedOf (Refused r ∷ js) = suc (refusedOf js)
 
 -- AFTER ANY LIST OF SENDS the counts are the sends done and refused, modulo 2^64
-pub counts-done : (js : List Judged) (c : Counts) → wrapped (countedAll js c .done) ≡ wrapped (c .done + doneOf js)
+pub counts-done : (js : List Judged) (c : Counts) → countedAll js c .done % 2 ^ 64 ≡ (c .done + doneOf js) % 2 ^ 64
 counts-done [] c = omega arith
 counts-done (Goes o ∷ js) c = counts-done js (counted (Goes o) c) ∙ omega arith
 counts-done (Refused r ∷ js) c = counts-done js (counted (Refused r) c)
 
-pub counts-refused : (js : List Judged) (c : Counts) → wrapped (countedAll js c .refused) ≡ wrapped (c .refused + refusedOf js)
+pub counts-refused : (js : List Judged) (c : Counts) → countedAll js c .refused % 2 ^ 64 ≡ (c .refused + refusedOf js) % 2 ^ 64
 counts-refused [] c = omega arith
 counts-refused (Goes o ∷ js) c = counts-refused js (counted (Goes o) c)
 counts-refused (Refused r ∷ js) c = counts-refused js (counted (Refused r) c) ∙ omega arith

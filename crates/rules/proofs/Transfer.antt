@@ -35,7 +35,7 @@ body-tailed bytes tail =
 -- ---- a cut
 
 module _ (m id : ℕ) where
-  cut-count : (start toggle : Bool) (n : ℕ) (bytes : List ℕ) → length (cut m id start toggle n bytes) ≡ suc n
+  pub cut-count : (start toggle : Bool) (n : ℕ) (bytes : List ℕ) → length (cut m id start toggle n bytes) ≡ suc n
   cut-count start toggle zero bytes = refl
   cut-count start toggle (suc n) bytes = ap suc (cut-count false (not toggle) n (drop m bytes))
 

@@ -1,0 +1,71 @@
+-- A place that was filled with a frame says that frame, and what a place says is handed out with zeros behind it.
+use mathlib.Core.Path.{_≡_, refl, sym, ap, _∙_}
+use mathlib.Core.Bool.{Bool, true, false, cond, not}
+use mathlib.Core.List.{List, _++_, append-assoc}
+use mathlib.Core.Option.{some}
+use Prim.Native.Nat.{ℕ, _+_, _-_, _/_, _%_, _≤_, _<_, min}
+use native.Mathlib.Omega.{arith}
+use lib.Dec.{eqb}
+use lib.ListN.{length, getD, take, drop, replicate, length-take, length-drop}
+use lib.Seq.{getD-take, length-take-le, take-all, take-at, drop-at, take-append-seam}
+use borrow.Rule.Slice.PartMut.{putMid}
+use Rattle.blocks.specs.Laid.{laid}
+use Rattle.rules.specs.Limits.{greatestFrame}
+use Rattle.rules.specs.Frames.{frame}
+use Rattle.rules.specs.declared.frame.Marks.{Marks}
+use Rattle.queue.specs.Place.{joined, headOf, frameOf, heldOf}
+use Rattle.queue.specs.declared.Held.{Held}
+
+-- the mark tells the loopback
+told : (b : Bool) → not (eqb (cond b 1 0) 0) ≡ b
+told true = refl
+told false = refl
+
+-- a place that begins with a frame's head and goes on with its bytes
+pub framed : (marks : Marks) (bytes place : List ℕ) → take 12 place ≡ headOf marks (length bytes) → take (length bytes) (drop 12 place) ≡ bytes → length bytes ≤ greatestFrame →
+    frameOf place ≡ frame marks bytes
+framed marks bytes place e eb h =
+    rw (byte 0 (omega arith), byte 1 (omega arith), byte 2 (omega arith), byte 3 (omega arith), byte 4 (omega arith), byte 5 (omega arith), byte 6 (omega arith), byte 7 (omega arith), byte 8 (omega arith), byte 9 (omega arith))
+    (rw (whole (marks .id), whole (marks .stamp), told (marks .loopback), least, eb))
+  where
+    byte : (k : ℕ) → k < 12 → getD place k 0 ≡ getD (headOf marks (length bytes)) k 0
+    byte k w = sym (getD-take 12 place k 0 w) ∙ ap (λ (l : List ℕ). getD l k 0) e
+
+    whole : (x : ℕ) → joined (x % 256) (x / 256 % 256) (x / 65536 % 256) (x / 16777216) ≡ x
+    whole x = omega arith
+
+    least : min (length bytes) greatestFrame ≡ length bytes
+    least = omega arith
+
+-- a place with its head, to which the bytes were copied
+pub filled : (marks : Marks) (bytes place copied : List ℕ) → length place ≡ 76 → take 12 place ≡ headOf marks (length bytes) → length bytes ≤ greatestFrame →
+    copied ≡ laid bytes (take 64 (drop 12 place)) → frameOf (putMid 12 64 place copied) ≡ frame marks bytes
+filled marks bytes place copied l e h ec =
+    framed marks bytes (putMid 12 64 place copied)
+    (take-at (take 12 place) _ 12 front ∙ e)
+    (ap (take (length bytes)) (drop-at (take 12 place) _ 12 front)
+    ∙ ap (λ (xs : List ℕ). take (length bytes) (xs ++ drop 64 (drop 12 place))) behind
+    ∙ ap (take (length bytes)) (append-assoc bytes _ _)
+    ∙ take-append-seam bytes _)
+    h
+  where
+    front : length (take 12 place) ≡ 12
+    front = length-take-le 12 place (omega arith)
+
+    behind : copied ≡ bytes ++ drop (length bytes) (take 64 (drop 12 place))
+    behind = ec ∙ ap (λ (xs : List ℕ). xs ++ drop (length bytes) (take 64 (drop 12 place))) (take-all (length (take 64 (drop 12 place))) bytes (simp (length-take, length-drop) (omega arith)))
+
+-- what is read of a place and copied from it
+pub fetched : (place bytes : List ℕ) (count id stamp : ℕ) → length place ≡ 76 →
+    id ≡ joined (getD place 0 0) (getD place 1 0) (getD place 2 0) (getD place 3 0) →
+    stamp ≡ joined (getD place 4 0) (getD place 5 0) (getD place 6 0) (getD place 7 0) →
+    count ≡ min (getD place 9 0) greatestFrame →
+    bytes ≡ laid (take (12 + count - 12) (drop 12 place)) (replicate greatestFrame 0) →
+    _≡_ {A = Held} (record { found = true; marks = record { stamp = stamp; id = id; loopback = not (eqb (getD place 8 0) 0) }; length = count; bytes = bytes })
+    (heldOf (some (frameOf place)))
+fetched place bytes count id stamp l ei es ec eb =
+    let n : ℕ = min (getD place 9 0) greatestFrame in
+    let a : 12 + count - 12 ≡ n = omega arith in
+    let k : count ≡ length (take n (drop 12 place)) = ec ∙ sym (length-take-le n (drop 12 place) (omega (arith, length-drop 12 place))) in
+    let b : bytes ≡ laid (take n (drop 12 place)) (replicate greatestFrame 0) = eb ∙ ap (λ (x : ℕ). laid (take x (drop 12 place)) (replicate greatestFrame 0)) a in
+    cc (ei, es, k, b)

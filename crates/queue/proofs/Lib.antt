@@ -1,0 +1,11 @@
+pub mod Slots
+pub mod Insertion
+pub mod Gaps
+pub mod State
+pub mod Bytes
+pub mod Popping
+pub mod Putting
+pub mod Fresh
+pub mod Shown
+pub mod Drain
+pub mod Alike

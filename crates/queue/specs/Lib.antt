@@ -1,0 +1,4 @@
+pub mod Ring
+pub mod Place
+pub mod Room
+pub mod Queue

@@ -1,0 +1,4 @@
+pub mod Parts
+pub mod Cuts
+pub mod Puts
+pub mod Verdict

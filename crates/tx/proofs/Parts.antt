@@ -1,0 +1,74 @@
+-- Lists of bytes in an array of zeros: a part laid at the front, zeros behind it, two bytes set behind those.
+use mathlib.Core.Path.{_≡_, refl, sym, ap, _∙_}
+use mathlib.Core.List.{List, [], _∷_, _++_, append-assoc}
+use Prim.Native.Nat.{ℕ, zero, suc, _+_, _-_, _≤_, _<_}
+use native.Mathlib.Nat.{sub-zero, zero-sub, suc-sub-suc}
+use native.Mathlib.Numerals.{add-one}
+use native.Mathlib.Omega.{arith}
+use lib.ListN.{length, set, take, drop, replicate, length-append, length-replicate, length-drop, replicate-append-replicate}
+use lib.Seq.{take-suc-set, take-at, set-at, append-snoc, take-all}
+use Rattle.blocks.specs.Laid.{laid}
+use Rattle.rules.specs.Crc.{crcFrom, crcBytes}
+use Rattle.rules.specs.Transfer.{padded, withCrc, tailed}
+
+-- a list that fits is laid whole
+laid-whole : (s d : List ℕ) → length s ≤ length d → laid s d ≡ s ++ drop (length s) d
+laid-whole s d h = ap (λ (l : List ℕ). l ++ drop (length s) d) (take-all (length d) s h)
+
+-- a byte set behind it
+pub laid-tailed : (s d : List ℕ) (t : ℕ) → length s < length d → take (length s + 1) (set (laid s d) (length s) t) ≡ tailed s t
+laid-tailed s d t h =
+    let e = laid-whole s d (omega arith) in
+    let l : length s < length (s ++ drop (length s) d) = omega (arith, length-append s (drop (length s) d), length-drop (length s) d) in
+    rw (e, add-one (length s), take-suc-set (s ++ drop (length s) d) (length s) t l, take-at s (drop (length s) d) (length s) refl) refl
+
+-- n zeros
+abbrev pub zeros : ℕ → List ℕ
+zeros n = replicate n 0
+
+drop-zeros : (n k : ℕ) → drop n (zeros k) ≡ zeros (k - n)
+drop-zeros zero k = rw (sub-zero k) refl
+drop-zeros (suc n) zero = rw (zero-sub (suc n)) refl
+drop-zeros (suc n) (suc k) = drop-zeros n k ∙ rw (suc-sub-suc k n) refl
+
+-- a list laid over zeros has zeros behind it
+pub laid-zeros : (s : List ℕ) (k : ℕ) → length s ≤ k → laid s (zeros k) ≡ padded (k - length s) s
+laid-zeros s k h =
+    let l : length s ≤ length (zeros k) = omega (arith, length-replicate {A = ℕ} k 0) in
+    laid-whole s (zeros k) l ∙ ap (λ (z : List ℕ). s ++ z) (drop-zeros (length s) k)
+
+pub length-padded : (s : List ℕ) (n : ℕ) → length (padded n s) ≡ length s + n
+length-padded s n = length-append s (replicate n 0) ∙ ap (λ (k : ℕ). length s + k) (length-replicate n 0)
+
+-- so many zeros as n, and the rest of them
+more-zeros : (s : List ℕ) (n k : ℕ) → n ≤ k → padded k s ≡ padded n s ++ replicate (k - n) 0
+more-zeros s n k h =
+    let e : k ≡ n + (k - n) = omega arith in
+    ap (λ (z : List ℕ). s ++ z) (ap (λ (j : ℕ). replicate j 0) e ∙ sym (replicate-append-replicate n (k - n) 0)) ∙ sym (append-assoc s (replicate n 0) (replicate (k - n) 0))
+
+-- a part with n zeros, cut from one with more
+pub padded-part : (s : List ℕ) (n k : ℕ) → n ≤ k → take (length s + n) (padded k s) ≡ padded n s
+padded-part s n k h = ap (take (length s + n)) (more-zeros s n k h) ∙ take-at (padded n s) (replicate (k - n) 0) (length s + n) (length-padded s n)
+
+two : (p : List ℕ) (k n a b : ℕ) → length p ≡ n → set (set (p ++ replicate (suc (suc k)) 0) n a) (n + 1) b ≡ (p ++ (a ∷ b ∷ [])) ++ replicate k 0
+two p k n a b e =
+    let l : length (p ++ (a ∷ [])) ≡ n + 1 = length-append p (a ∷ []) ∙ ap (λ (j : ℕ). j + 1) e in
+    rw (set-at p 0 (0 ∷ replicate k 0) a n e, ← append-snoc p a (0 ∷ replicate k 0), set-at (p ++ (a ∷ [])) 0 (replicate k 0) b (n + 1) l)
+    (append-assoc p (a ∷ []) (b ∷ replicate k 0) ∙ sym (append-assoc p (a ∷ b ∷ []) (replicate k 0)))
+
+-- two bytes set behind n of the zeros
+pub two-set : (s : List ℕ) (n k a b : ℕ) → n + 2 ≤ k → set (set (padded k s) (length s + n) a) (length s + n + 1) b ≡ (padded n s ++ (a ∷ b ∷ [])) ++ replicate (k - (n + 2)) 0
+two-set s n k a b h =
+    let z : k - n ≡ suc (suc (k - (n + 2))) = omega arith in
+    ap (λ (l : List ℕ). set (set l (length s + n) a) (length s + n + 1) b)
+    (more-zeros s n k (omega arith) ∙ ap (λ (j : ℕ). padded n s ++ replicate j 0) z)
+    ∙ two (padded n s) (k - (n + 2)) (length s + n) a b (length-padded s n)
+
+pub length-crc : (c : ℕ) (s : List ℕ) (n : ℕ) → length (withCrc c (padded n s)) ≡ length s + n + 2
+length-crc c s n = length-append (padded n s) (crcBytes (crcFrom c (padded n s))) ∙ ap (λ (k : ℕ). k + 2) (length-padded s n)
+
+-- what lies in the rest's array
+pub rest-part : (c pad n : ℕ) (ys zs r : List ℕ) (z : ℕ) → ys ≡ zs → r ≡ withCrc c (padded pad ys) ++ zeros z → n ≡ length zs + pad + 2 → take n r ≡ withCrc c (padded pad zs)
+rest-part c pad n ys zs r z e er en =
+    ap (take n) (er ∙ ap (λ (x : List ℕ). withCrc c (padded pad x) ++ zeros z) e)
+    ∙ take-at (withCrc c (padded pad zs)) (zeros z) n (length-crc c zs pad ∙ sym en)

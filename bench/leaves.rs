@@ -6,7 +6,23 @@ use std::time::Instant;
 
 extern "C" {
     fn measure_digest_bytes(crc: u16, bytes: *const u8, length: usize) -> u16;
+    fn measure_push_pop(places: *mut [u8; PLACE], count: usize, id: u32, bytes: *const u8, length: usize) -> usize;
     fn measure_copy(src: *const u8, src_length: usize, dst: *mut u8, dst_length: usize) -> usize;
+}
+
+// A queue's places, and a queue that would hold them in itself.
+const PLACE: usize = 76;
+type Places = [[u8; PLACE]; 256];
+
+fn push_pop(places: &mut Places, bytes: &[u8]) -> usize {
+    // 256 places, lent for the call.
+    unsafe { measure_push_pop(places.as_mut_ptr(), places.len(), 5, bytes.as_ptr(), bytes.len()) }
+}
+
+// What a queue of 256 places by value costs beside the work itself: it goes in and comes back.
+#[inline(never)]
+fn by_value(places: Places) -> Places {
+    black_box(places)
 }
 
 const fn table() -> [u16; 256] {
@@ -107,4 +123,16 @@ fn main() {
         });
         println!("copy of {length} bytes: {:.2} of copy_from_slice", median(rounds.collect()));
     }
+    let mut places = [[0u8; PLACE]; 256];
+    assert_eq!(push_pop(&mut places, &bytes[..64]), 64);
+    let rounds = (0..41).map(|_| {
+        let ours = nanoseconds(20_000, || {
+            black_box(push_pop(black_box(&mut places), black_box(&bytes[..64])));
+        });
+        let copied = nanoseconds(20_000, || {
+            black_box(by_value(black_box(places)));
+        });
+        copied / ours
+    });
+    println!("a queue of 256 places, in and back by value: {:.1} times a push and a pop over lent places", median(rounds.collect()));
 }

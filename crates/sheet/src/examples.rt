@@ -128,8 +128,7 @@ pub(crate) fn node_information(tally: Tally) -> Tally {
 
 // The response's 69 bytes in eleven frames of MTU 8, the CRC split between the last two.
 pub(crate) fn response_frames(tally: Tally) -> Tally {
-    let payload =
-        b"\x01\x00\x00\x00\x01\x00\x00\x00\x00\x00\x00\x00\x00\x00\x00\x00\x00\x00\x00\x00\x00\x00\x00\x00\x00\x00\x00\x00\x00\x00\x24\x6F\x72\x67\x2E\x75\x61\x76\x63\x61\x6E\x2E\x70\x79\x75\x61\x76\x63\x61\x6E\x2E\x64\x65\x6D\x6F\x2E\x62\x61\x73\x69\x63\x5F\x75\x73\x61\x67\x65\x00\x00";
+    let payload = cases::node_information();
     let id = CanTransferId(1);
     let a = print::row(
         tally,
@@ -149,7 +148,7 @@ pub(crate) fn response_frames(tally: Tally) -> Tally {
         b,
         b"response, transfer CRC",
         4,
-        cases::crc_of(payload),
+        cases::crc_of(&payload),
         0x9AE7,
     );
     let d = print::row(

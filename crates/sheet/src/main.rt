@@ -3,6 +3,7 @@
 mod cases;
 mod examples;
 mod print;
+mod sender;
 
 use print::Tally;
 
@@ -21,6 +22,13 @@ fn main() {
     tally = examples::heartbeat(tally);
     tally = examples::node_information(tally);
     tally = examples::response_frames(tally);
+    print::line(b"The real sender over the real queue (1: as it should be)");
+    tally = sender::lengths(tally);
+    tally = sender::split_crc(tally);
+    tally = sender::single_frames(tally);
+    tally = sender::node_information(tally);
+    tally = sender::returned_first(tally);
+    tally = sender::refusals(tally);
     print::line(b"The tracker");
     tally = examples::transfer_ids(tally);
     print::total(tally);

@@ -31,7 +31,8 @@ pub(crate) fn rest_of(crc: u16, padding: usize, part: &[u8]) -> [u8; 128]
     requires { ⌜ (length (now part) ≤ 64) × (padding ≤ 62) ⌝ }
     ensures { λ r. ⌜ r ≡ withCrc crc (padded padding (now (part .entry))) ++ replicate (126 - (length (now (part .entry)) + padding)) 0 ⌝ }
 {
-    let high = part.len() + padding;
+    let n = part.len();
+    let high = n + padding;
     let low = high + 1;
     let mut rest = padded_part(part);
     let crc = crc::digest_bytes(crc, &rest[..high]);

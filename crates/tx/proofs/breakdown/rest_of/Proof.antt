@@ -26,10 +26,7 @@ array-share-prefix-rest : tie.Need-array-share-prefix-rest
 array-share-prefix-rest c = search needs
 
 slice-aggregate-digest-bytes : tie.Need-slice-aggregate-digest-bytes
-slice-aggregate-digest-bytes c =
-    let a = c .before .before .before .args in
-    let h : length (c .before .padded-part .result) ≡ 128 = search needs in
-    sym (length-take-le (length (now (a .part)) + a .padding) (c .before .padded-part .result) (omega arith))
+slice-aggregate-digest-bytes c = sym (length-take-le _ _ (array-share-prefix-rest (c .before)))
 
 digest-bytes-requires : tie.Need-digest-bytes-requires
 digest-bytes-requires c κs = search needs

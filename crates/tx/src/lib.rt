@@ -51,11 +51,9 @@ impl CanTransmitter {
     pub fn set_mtu(self, mtu: usize) -> Self
         ensures { λ r. ⌜ r ≡ record { mtu = mtu; «transfer_count» = self .«transfer_count»; «error_count» = self .«error_count» } ⌝ }
     {
-        CanTransmitter {
-            mtu,
-            transfer_count: self.transfer_count,
-            error_count: self.error_count,
-        }
+        let mut changed = self;
+        changed.mtu = mtu;
+        changed
     }
 
     // The bytes before a tail byte; 0 for an MTU of 0.

@@ -9,7 +9,7 @@ use lib.Dec.{ltb}
 use Rattle.rules.specs.Frames.{Frame}
 use Rattle.rules.specs.Queue.{allAbove, pushed, returned}
 use Rattle.queue.specs.Ring.{tab}
-use Rattle.queue.specs.Room.{inserted}
+use Rattle.queue.specs.Room.{insertedAt}
 use Rattle.queue.proofs.Slots.{tab-same}
 
 all-above : (i n : ℕ) (g : ℕ → Frame) → ((k : ℕ) → k < n → i < g k .id) → allAbove i (tab n g) ≡ true
@@ -31,7 +31,7 @@ pub pushed-at :
     j ≤ n →
     ((k : ℕ) → j ≤ k → k < n → f .id < g k .id) →
     ((k : ℕ) → suc k ≡ j → g k .id ≤ f .id) →
-    pushed f (tab n g) ≡ inserted j f (tab n g)
+    pushed f (tab n g) ≡ insertedAt j f (tab n g)
 pushed-at zero zero f g hj above below = refl
 pushed-at zero (suc j) f g hj above below = absurd (omega arith)
 pushed-at (suc n) zero f g hj above below = rw (all-above (f .id) (suc n) g (λ k hk. above k (omega arith) hk))
@@ -46,7 +46,7 @@ pub returned-at :
     j ≤ n →
     ((k : ℕ) → k < j → g k .id < f .id) →
     (j < n → f .id ≤ g j .id) →
-    returned f (tab n g) ≡ inserted j f (tab n g)
+    returned f (tab n g) ≡ insertedAt j f (tab n g)
 returned-at zero zero f g hj below above = refl
 returned-at zero (suc j) f g hj below above = absurd (omega arith)
 returned-at (suc n) zero f g hj below above = rw (le-leb _ _ (above (omega arith)))
@@ -56,18 +56,18 @@ returned-at (suc n) (suc j) f g hj below above =
     (returned-at n j f (λ k. g (suc k)) (omega arith) (λ k h. below (suc k) (omega arith)) (λ h. above (omega arith))))
 
 -- one more element at j: those before it stand where they stood, the others one further
-pub inserted-tab :
+pub inserted-at-tab :
     {A : Type 0} (n j : ℕ) (x : A) (f g : ℕ → A) →
     j ≤ n →
     ((k : ℕ) → k < j → f k ≡ g k) →
     f j ≡ x →
     ((k : ℕ) → j ≤ k → k < n → f (suc k) ≡ g k) →
-    tab (suc n) f ≡ inserted j x (tab n g)
-inserted-tab zero zero x f g hj low mid high = cc
-inserted-tab zero (suc j) x f g hj low mid high = absurd (omega arith)
-inserted-tab (suc n) zero x f g hj low mid high = cc (tab-same (suc n) (λ k. f (suc k)) g (λ k hk. high k (omega arith) hk))
-inserted-tab (suc n) (suc j) x f g hj low mid high =
+    tab (suc n) f ≡ insertedAt j x (tab n g)
+inserted-at-tab zero zero x f g hj low mid high = cc
+inserted-at-tab zero (suc j) x f g hj low mid high = absurd (omega arith)
+inserted-at-tab (suc n) zero x f g hj low mid high = cc (tab-same (suc n) (λ k. f (suc k)) g (λ k hk. high k (omega arith) hk))
+inserted-at-tab (suc n) (suc j) x f g hj low mid high =
     cc (
       low 0 (omega arith),
-      inserted-tab n j x (λ k. f (suc k)) (λ k. g (suc k)) (omega arith) (λ k h. low (suc k) (omega arith)) mid (λ k h₁ h₂. high (suc k) (omega arith) (omega arith)),
+      inserted-at-tab n j x (λ k. f (suc k)) (λ k. g (suc k)) (omega arith) (λ k h. low (suc k) (omega arith)) mid (λ k h₁ h₂. high (suc k) (omega arith) (omega arith)),
     )

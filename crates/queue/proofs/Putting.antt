@@ -16,12 +16,12 @@ use Rattle.rules.specs.declared.placing.Placing.{Placing}
 use Rattle.rules.specs.declared.placing.Placing.the-variants.{Placed, Refused}
 use Rattle.queue.specs.Place.{frameOf}
 use Rattle.queue.specs.Ring.{slotOf, at, tab}
-use Rattle.queue.specs.Room.{Opened, inserted}
+use Rattle.queue.specs.Room.{Opened, insertedAt}
 use Rattle.queue.specs.Queue.{sound, frameAt, free, capacity-is, Put, Places}
 use Rattle.queue.specs.declared.ArrayQueue.{ArrayQueue}
 use Rattle.queue.specs.declared.Pushed.{Pushed}
 use Rattle.queue.proofs.Slots.{tab-same}
-use Rattle.queue.proofs.Insertion.{inserted-tab}
+use Rattle.queue.proofs.Insertion.{inserted-at-tab}
 use Rattle.queue.proofs.Gaps.{there, elsewhere}
 use Rattle.queue.proofs.State.{Sound, sound-of, contents-of, free-of}
 
@@ -45,10 +45,10 @@ module _ (put : Frame → List Frame → List Frame) (q : ArrayQueue) (places : 
   grown-sound = simp length-set (sound-of (grown q head) _ (record { head = hh; room = omega arith; small = s .small; enough = lent }))
 
   -- the frames of the grown ring are those that were, and the new one at j
-  frames : tab (suc (q .length)) (frameAt (grown q head) after-it) ≡ inserted j (frameOf filled) (tab (q .length) (λ k. frameOf (was k)))
+  frames : tab (suc (q .length)) (frameAt (grown q head) after-it) ≡ insertedAt j (frameOf filled) (tab (q .length) (λ k. frameOf (was k)))
   unfolding after-it
   frames =
-      inserted-tab (q .length) j (frameOf filled) (frameAt (grown q head) after-it) (λ k. frameOf (was k)) (o .gap .inside)
+      inserted-at-tab (q .length) j (frameOf filled) (frameAt (grown q head) after-it) (λ k. frameOf (was k)) (o .gap .inside)
       (λ k h. ap frameOf (elsewhere head (q .capacity) (q .length) places hh spare moved filled k j (omega (arith, o .gap .inside)) (omega (arith, o .gap .inside)) (λ e. omega arith) ∙ o .gap .low k h))
       (ap frameOf (there head (q .capacity) (q .length) places hh spare moved filled j (omega (arith, o .gap .inside)) lent))
       (λ k h₁ h₂. ap frameOf (elsewhere head (q .capacity) (q .length) places hh spare moved filled (suc k) j (omega arith) (omega (arith, o .gap .inside)) (λ e. omega arith) ∙ o .gap .high k h₁ h₂))

@@ -15,10 +15,10 @@ pub record Gap (head cap n : ℕ) (before : List (List ℕ)) (was : ℕ → List
   pub high : (k : ℕ) → j ≤ k → k < n → at head cap now (suc k) ≡ was k
 
 -- a list with one more element, at place j
-abbrev pub inserted : {A : Type 0} → ℕ → A → List A → List A
-inserted j x xs = take j xs ++ (x ∷ drop j xs)
+abbrev pub insertedAt : {A : Type 0} → ℕ → A → List A → List A
+insertedAt j x xs = take j xs ++ (x ∷ drop j xs)
 
 -- and the gap is where a frame of this ID is put
 pub record Opened (put : Frame → List Frame → List Frame) (head cap n id : ℕ) (before : List (List ℕ)) (was : ℕ → List ℕ) (now : List (List ℕ)) (j : ℕ) : Type 0 where
   pub gap : Gap head cap n before was now j
-  pub there : (f : Frame) → f .id ≡ id → put f (tab n (λ k. frameOf (was k))) ≡ inserted j f (tab n (λ k. frameOf (was k)))
+  pub there : (f : Frame) → f .id ≡ id → put f (tab n (λ k. frameOf (was k))) ≡ insertedAt j f (tab n (λ k. frameOf (was k)))

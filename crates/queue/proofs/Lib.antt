@@ -9,3 +9,4 @@ pub mod Fresh
 pub mod Shown
 pub mod Drain
 pub mod Alike
+pub mod Balance

@@ -217,14 +217,16 @@ impl ArrayQueue {
     fn judge(self, places: &[Place], marks: Marks, bytes: &[u8]) -> Placing
         ensures { λ r. ⌜ r ≡ placed (free self (now (places .entry))) (frame marks (now (bytes .entry))) ⌝ }
     {
-        if FRAME_CAPACITY < bytes.len() {
+        let short = bytes.len() <= FRAME_CAPACITY;
+        let id = CanId(marks.id);
+        let valid = id.is_valid();
+        if !short {
             return Placing::Refused(Refusal::FrameTooLong);
         }
-        let id = CanId(marks.id);
-        if id.is_valid() {
-            return self.try_reserve(places, 1);
+        if !valid {
+            return Placing::Refused(Refusal::CanId);
         }
-        Placing::Refused(Refusal::CanId)
+        self.try_reserve(places, 1)
     }
 
     // Puts a filled place behind those whose ID is not above its own.

@@ -8,4 +8,9 @@ pub mod Tracker
 pub mod Queue
 pub mod Sending
 pub mod Judged
+pub mod Answers
+pub mod Session
+pub mod Store
+pub mod Source
+pub mod Receiver
 pub mod Bench

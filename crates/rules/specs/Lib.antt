@@ -9,4 +9,10 @@ pub mod Tracker
 pub mod Frames
 pub mod Queue
 pub mod Sending
+pub mod Slot
+pub mod Session
+pub mod Answers
+pub mod Source
+pub mod Receiver
+pub mod Histories
 pub mod Bench

@@ -1,0 +1,59 @@
+-- Histories: frames that come one after the other, and what one source hears of them. The caller lends the same store at each call and writes nothing in it
+-- between; an answer's bytes are read at once, from the frame and from the store as the call left it.
+use Prim.Native.Nat.{ℕ}
+use mathlib.Core.Bool.{Bool, true, false, cond}
+use mathlib.Core.List.{List, [], _∷_}
+use lib.Dec.{eqb}
+use Rattle.rules.specs.declared.header.Source.{Source}
+use Rattle.rules.specs.declared.header.Source.the-variants.{Node, Anonymous}
+use Rattle.rules.specs.declared.subscription.Port.{Port}
+use Rattle.rules.specs.declared.subscription.Settings.{Settings}
+use Rattle.rules.specs.declared.receive.Reading.{Reading}
+use Rattle.rules.specs.declared.receive.Reading.the-variants.{Ours, NotOurs, Refused}
+use Rattle.rules.specs.Frames.{Frame}
+use Rattle.rules.specs.Answers.{Answer, shown}
+use Rattle.rules.specs.Receiver.{Receiver, Outcome, reading, sourceIn, received}
+
+-- the receiver after a run of frames
+abbrev pub run : Settings → Receiver → List Frame → Receiver
+run s w [] = w
+run s w (f ∷ fs) = run s (received s w f .receiver) fs
+
+-- an answer with the bytes that it shows
+pub record Told : Type 0 where
+  pub answer : Answer
+  pub bytes : List ℕ
+
+abbrev pub tells : Frame → Outcome → Told
+tells f o = record { answer = o .answer; bytes = shown (o .answer) (f .bytes) (o .receiver .store) }
+
+-- all that a run of frames is told
+abbrev pub told : Settings → Receiver → List Frame → List Told
+told s w [] = []
+told s w (f ∷ fs) = tells f (received s w f) ∷ told s (received s w f .receiver) fs
+
+-- ---- one source among others
+
+abbrev pub isNode : ℕ → Source → Bool
+isNode n (Node m) = eqb (m .0) n
+isNode n Anonymous = false
+
+abbrev pub readFrom : ℕ → Reading → Bool
+readFrom n (Ours a) = isNode n (sourceIn (a .header))
+readFrom n NotOurs = false
+readFrom n (Refused r) = false
+
+-- a good frame of source n for this subscription
+unfoldable pub isFrom : Port → ℕ → Frame → Bool
+isFrom port n f = readFrom n (reading port f)
+
+-- the good frames of source n
+abbrev pub only : Port → ℕ → List Frame → List Frame
+only port n [] = []
+only port n (f ∷ fs) = cond (isFrom port n f) (f ∷ only port n fs) (only port n fs)
+
+-- what those are told, among all the others
+abbrev pub heard : Settings → ℕ → Receiver → List Frame → List Told
+heard s n w [] = []
+heard s n w (f ∷ fs) =
+    cond (isFrom (s .port) n f) (tells f (received s w f) ∷ heard s n (received s w f .receiver) fs) (heard s n (received s w f .receiver) fs)

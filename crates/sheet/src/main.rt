@@ -1,8 +1,9 @@
-// The bench sheet on the real code: runs its cases 1 to 5 and 14, the published CRC vectors and the worked examples of the Cyphal Specification as far as
-// the wire reaches, and prints for each what the code gives. A row that is not as the sheet or the document says is marked WRONG, and counted.
+// The bench sheet on the real code: runs its cases, the published CRC vectors and the worked examples of the Cyphal Specification, and prints for each what
+// the code gives. A row that is not as the sheet or the document says is marked WRONG, and counted.
 mod cases;
 mod examples;
 mod print;
+mod receiver;
 mod sender;
 
 use print::Tally;
@@ -29,7 +30,33 @@ fn main() {
     tally = sender::node_information(tally);
     tally = sender::returned_first(tally);
     tally = sender::refusals(tally);
+    tally = received(tally);
     print::line(b"The tracker");
     tally = examples::transfer_ids(tally);
     print::total(tally);
+}
+
+// The sheet's cases, the refusals and the specification's frames at the real receiver.
+fn received(before: Tally) -> Tally {
+    let mut tally = before;
+    print::line(
+        b"The real receiver (0: nothing, 100: delivered, 200: not ours, others: the refusal)",
+    );
+    tally = receiver::empty_payload(tally);
+    tally = receiver::one_byte(tally);
+    tally = receiver::strange_id(tally);
+    tally = receiver::repeat(tally);
+    tally = receiver::never_seen(tally);
+    tally = receiver::second_time(tally);
+    tally = receiver::first_stamp(tally);
+    tally = receiver::refusals(tally);
+    tally = receiver::makings(tally);
+    tally = receiver::anonymous(tally);
+    print::line(
+        b"Worked examples of the Cyphal Specification at the real receiver (1: as it should be)",
+    );
+    tally = receiver::heartbeats(tally);
+    tally = receiver::request(tally);
+    tally = receiver::response(tally);
+    tally
 }

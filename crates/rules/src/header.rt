@@ -21,8 +21,9 @@ pub struct MessageHeader {
 pub struct ServiceHeader {
     pub priority: Priority,
     pub service: ServiceId,
-    pub destination: CanNodeId,
+    // as far from the start as in a message's header, so that it is read from one place
     pub source: Source,
+    pub destination: CanNodeId,
 }
 
 pub enum Header {

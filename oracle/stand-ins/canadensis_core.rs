@@ -1,12 +1,22 @@
-//! Stand-in for canadensis_core, as far as the original's sender and queue use it: written from those uses and, for the CRC and
-//! the limits of the numbers, from the Cyphal Specification.
+//! Stand-in for canadensis_core, as far as the original's sender, queue and receiver use it: written from those uses and, for the CRC
+//! and the limits of the numbers, from the Cyphal Specification.
 
 #[derive(Debug, PartialEq)]
 pub struct OutOfMemoryError;
+impl From<std::collections::TryReserveError> for OutOfMemoryError {
+    fn from(_: std::collections::TryReserveError) -> Self {
+        OutOfMemoryError
+    }
+}
 #[derive(Debug, PartialEq)]
 pub struct InvalidValue;
+#[derive(Debug)]
+pub enum ServiceSubscribeError<E> {
+    Transport(E),
+    Anonymous,
+}
 
-#[derive(Clone, Copy)]
+#[derive(Clone, Copy, Debug)]
 pub enum Priority {
     Exceptional,
     Immediate,
@@ -17,11 +27,44 @@ pub enum Priority {
     Slow,
     Optional,
 }
+impl TryFrom<u8> for Priority {
+    type Error = InvalidValue;
+    fn try_from(value: u8) -> Result<Self, InvalidValue> {
+        use Priority::*;
+        let all = [Exceptional, Immediate, Fast, High, Nominal, Low, Slow, Optional];
+        all.get(usize::from(value)).copied().ok_or(InvalidValue)
+    }
+}
+
+/// A subject or a service.
+#[derive(Clone, Copy, Debug, PartialEq, Eq)]
+pub struct PortId(u16);
 
 macro_rules! number {
-    ($name:ident) => {
-        #[derive(Clone, Copy)]
+    ($name:ident, $greatest:expr) => {
+        #[derive(Clone, Copy, Debug)]
         pub struct $name(pub u16);
+        impl TryFrom<u16> for $name {
+            type Error = InvalidValue;
+            fn try_from(value: u16) -> Result<Self, InvalidValue> {
+                if value <= $greatest {
+                    Ok(Self(value))
+                } else {
+                    Err(InvalidValue)
+                }
+            }
+        }
+        impl From<$name> for PortId {
+            fn from(id: $name) -> PortId {
+                PortId(id.0)
+            }
+        }
+        impl TryFrom<PortId> for $name {
+            type Error = InvalidValue;
+            fn try_from(port: PortId) -> Result<Self, InvalidValue> {
+                Self::try_from(port.0)
+            }
+        }
         impl From<$name> for u16 {
             fn from(id: $name) -> u16 {
                 id.0
@@ -34,8 +77,8 @@ macro_rules! number {
         }
     };
 }
-number!(SubjectId);
-number!(ServiceId);
+number!(SubjectId, 8191);
+number!(ServiceId, 511);
 
 pub mod nb {
     #[derive(Debug, PartialEq)]
@@ -64,6 +107,23 @@ pub mod time {
         pub const fn ticks(self) -> u32 {
             self.0
         }
+        /// The time since another, with wrapping; none where the difference is 2^31 or more, which is a time that went back.
+        /// The original's own is not printed: document 01 decides.
+        pub fn checked_duration_since(self, other: Self) -> Option<MicrosecondDuration32> {
+            let difference = self.0.wrapping_sub(other.0);
+            if difference < 1 << 31 {
+                Some(MicrosecondDuration32(difference))
+            } else {
+                None
+            }
+        }
+    }
+    #[derive(Clone, Copy, Debug, PartialEq, Eq, PartialOrd, Ord)]
+    pub struct MicrosecondDuration32(u32);
+    impl MicrosecondDuration32 {
+        pub const fn from_ticks(ticks: u32) -> Self {
+            Self(ticks)
+        }
     }
     pub trait Clock {
         fn now(&mut self) -> Microseconds32;
@@ -79,18 +139,44 @@ pub mod subscription {
 }
 
 pub mod crc {
-    /// CRC-16/CCITT-FALSE, bit by bit.
+    // What eight bits do to the register's high byte.
+    const fn by_bits(byte: u16) -> u16 {
+        let mut crc = byte << 8;
+        let mut bit = 0;
+        while bit < 8 {
+            crc = if crc & 0x8000 != 0 { crc << 1 ^ 0x1021 } else { crc << 1 };
+            bit += 1;
+        }
+        crc
+    }
+    const fn table() -> [u16; 256] {
+        let mut table = [0; 256];
+        let mut byte = 0;
+        while byte < 256 {
+            table[byte] = by_bits(byte as u16);
+            byte += 1;
+        }
+        table
+    }
+    static TABLE: [u16; 256] = table();
+
+    /// CRC-16/CCITT-FALSE, by a table.
+    #[derive(Debug)]
     pub struct Crc16CcittFalse(u16);
     impl Crc16CcittFalse {
+        #[inline]
         pub fn new() -> Self {
             Self(0xffff)
         }
+        #[inline]
         pub fn digest(&mut self, byte: u8) {
-            self.0 ^= u16::from(byte) << 8;
-            for _ in 0..8 {
-                self.0 = if self.0 & 0x8000 != 0 { self.0 << 1 ^ 0x1021 } else { self.0 << 1 };
-            }
+            self.0 = self.0 << 8 ^ TABLE[usize::from(self.0 >> 8 ^ u16::from(byte))];
         }
+        #[inline]
+        pub fn digest_bytes(&mut self, bytes: &[u8]) {
+            bytes.iter().for_each(|byte| self.digest(*byte));
+        }
+        #[inline]
         pub fn get_crc(&self) -> u16 {
             self.0
         }
@@ -98,8 +184,9 @@ pub mod crc {
 }
 
 pub mod transport {
-    use crate::nb;
+    use crate::time::MicrosecondDuration32;
     use crate::transfer::Transfer;
+    use crate::{nb, ServiceId, ServiceSubscribeError, SubjectId};
 
     pub trait TransferId {
         fn increment(self) -> Self;
@@ -122,12 +209,49 @@ pub mod transport {
         fn flush(&mut self, clock: &mut C, driver: &mut Self::Driver) -> nb::Result<(), Self::Error>;
         fn mtu(&self) -> usize;
     }
+    pub trait Receiver<C> {
+        type Transport: Transport;
+        type Driver;
+        type Error;
+        fn receive(
+            &mut self,
+            clock: &mut C,
+            driver: &mut Self::Driver,
+        ) -> Result<Option<Transfer<Vec<u8>, Self::Transport>>, Self::Error>;
+        fn subscribe_message(
+            &mut self,
+            subject: SubjectId,
+            payload_size_max: usize,
+            timeout: MicrosecondDuration32,
+            driver: &mut Self::Driver,
+        ) -> Result<(), Self::Error>;
+        fn unsubscribe_message(&mut self, subject: SubjectId, driver: &mut Self::Driver);
+        fn subscribe_request(
+            &mut self,
+            service: ServiceId,
+            payload_size_max: usize,
+            timeout: MicrosecondDuration32,
+            driver: &mut Self::Driver,
+        ) -> Result<(), ServiceSubscribeError<Self::Error>>;
+        fn unsubscribe_request(&mut self, service: ServiceId, driver: &mut Self::Driver);
+        fn subscribe_response(
+            &mut self,
+            service: ServiceId,
+            payload_size_max: usize,
+            timeout: MicrosecondDuration32,
+            driver: &mut Self::Driver,
+        ) -> Result<(), ServiceSubscribeError<Self::Error>>;
+        fn unsubscribe_response(&mut self, service: ServiceId, driver: &mut Self::Driver);
+        fn set_id(&mut self, id: Option<<Self::Transport as Transport>::NodeId>);
+        fn subscribers(&self) -> impl Iterator<Item = SubjectId>;
+        fn servers(&self) -> impl Iterator<Item = ServiceId>;
+    }
 }
 
 pub mod transfer {
     use crate::time::Microseconds32;
     use crate::transport::Transport;
-    use crate::{ServiceId, SubjectId};
+    use crate::{PortId, ServiceId, SubjectId};
 
     pub struct MessageHeader<T: Transport> {
         pub timestamp: Microseconds32,
@@ -166,6 +290,15 @@ pub mod transfer {
         }
         pub fn timestamp(&self) -> Microseconds32 {
             of_either!(self, h => h.timestamp)
+        }
+        pub fn set_timestamp(&mut self, timestamp: Microseconds32) {
+            of_either!(self, h => h.timestamp = timestamp)
+        }
+        pub fn port_id(&self) -> PortId {
+            match self {
+                Header::Message(h) => h.subject.into(),
+                Header::Request(h) | Header::Response(h) => h.service.into(),
+            }
         }
         pub fn source(&self) -> Option<&T::NodeId> {
             match self {

@@ -1,4 +1,5 @@
--- What a judgement that lets a transfer go says: its plan is that of its payload, and its CAN ID has 29 bits.
+-- What a judgement that lets a transfer go says: its plan is that of its payload, its CAN ID is the one that its header makes, of 29 bits, and its transfer ID is
+-- one of 32.
 use mathlib.Core.Path.{_≡_, refl, subst}
 use mathlib.Core.Bool.{Bool, true, false, _&&_}
 use mathlib.Core.List.{List}
@@ -11,7 +12,7 @@ use Rattle.laws.proofs.Bits.{flag-le}
 use Rattle.laws.proofs.Choose.{both-true, first-chosen, second-chosen}
 use Rattle.rules.specs.declared.types.TriedCanTransferId.{TriedCanTransferId}
 use Rattle.rules.specs.declared.types.TriedCanTransferId.the-variants.{Valid as ValidTransferId, Refused as NoTransferId}
-use Rattle.rules.specs.declared.refusal.Refusal.the-variants.{PayloadTooLong, AnonymousTooLong}
+use Rattle.rules.specs.declared.refusal.Refusal.the-variants.{PayloadTooLong, AnonymousTooLong, Field}
 use Rattle.rules.specs.declared.data.CanId.{CanId as Id}
 use Rattle.rules.specs.declared.data.Mtu.{Mtu}
 use Rattle.rules.specs.declared.data.TriedMtu.{TriedMtu}
@@ -27,7 +28,7 @@ use Rattle.rules.specs.declared.stats.Planned.the-variants.{Stats, Refus
 use Rattle.rules.specs.declared.send.Transfer.{Transfer}
 use Rattle.rules.specs.declared.send.Outgoing.{Outgoing}
 use Rattle.rules.specs.declared.send.Judged.the-variants.{Goes, Refused}
-use Rattle.rules.specs.Limits.{greatestPriority, greatestSubject, greatestService, greatestNode, greatestCanId, greatestPayload, roomOf, triedMtu, triedTransferId}
+use Rattle.rules.specs.Limits.{greatestPriority, greatestSubject, greatestService, greatestNode, greatestCanId, greatestTransferId, greatestPayload, roomOf, triedMtu, triedTransferId}
 use Rattle.rules.specs.CanId.{messageId, serviceId, pseudoSource, messageMade, serviceMade, messageFrom, serviceFrom, canIdOf}
 use Rattle.rules.specs.Plan.{statsOf, planned}
 use Rattle.rules.specs.Sending.{anonymous, judgedFit, judgedPlan, judgedId, judgedTransferId, judgedMtu, judged}
@@ -66,9 +67,11 @@ id-small (Response h) payload id e = from-service id (h .source) (h .priority .0
 
 -- ---- what goes
 
-pub record Sound (payload : List ℕ) (o : Outgoing) : Type 0 where
+pub record Sound (t : Transfer) (payload : List ℕ) (o : Outgoing) : Type 0 where
   pub plan : o .stats ≡ statsOf (o .mtu) (length payload)
+  pub made : canIdOf (t .header) payload ≡ Made (o .id)
   pub id : o .id .0 ≤ greatestCanId
+  pub transferId : t .«transfer_id» .0 ≤ greatestTransferId
 
 module _ (t : Transfer) (payload : List ℕ) (o : Outgoing) where
   fit-goes : (x : Outgoing) → judgedFit t payload x ≡ Goes o → x ≡ o
@@ -76,25 +79,31 @@ module _ (t : Transfer) (payload : List ℕ) (o : Outgoing) where
       let c = second-chosen (anonymous (t .header) && ltb (roomOf (x .mtu)) (length payload)) (Refused AnonymousTooLong) (Goes x) (Goes o) e (λ y. let z : _≡_ {A = ℕ} 0 1 = cc in omega arith) in
       cc
 
-  plan-goes : (u : Mtu) (id : Id) (p : Planned) → planned u (length payload) ≡ p → id .0 ≤ greatestCanId → judgedPlan t payload u id p ≡ Goes o → Sound payload o
-  plan-goes u id (Stats s) q h e =
+  plan-goes : (u : Mtu) (id : Id) (p : Planned) → t .«transfer_id» .0 ≤ greatestTransferId → canIdOf (t .header) payload ≡ Made id
+      → planned u (length payload) ≡ p → judgedPlan t payload u id p ≡ Goes o → Sound t payload o
+  plan-goes u id (Stats s) i m q e =
       let c = first-chosen (leb (length payload) greatestPayload) (Stats (statsOf u (length payload))) (NotPlanned PayloadTooLong) (Stats s) q (λ x. let z : _≡_ {A = ℕ} 0 1 = cc in omega arith) in
       let f : s ≡ statsOf u (length payload) = cc in
-      subst (Sound payload) (fit-goes (record { mtu = u; id = id; stats = s }) e) (record { plan = f; id = h })
-  plan-goes u id (NotPlanned r) q h e = let z : _≡_ {A = ℕ} 0 1 = cc in absurd (omega arith)
+      subst (Sound t payload) (fit-goes (record { mtu = u; id = id; stats = s }) e)
+      (record { plan = f; made = m; id = id-small (t .header) payload id m; transferId = i })
+  plan-goes u id (NotPlanned r) i m q e = let z : _≡_ {A = ℕ} 0 1 = cc in absurd (omega arith)
 
-  id-goes : (u : Mtu) (m : MadeCanId) → canIdOf (t .header) payload ≡ m → judgedId t payload u m ≡ Goes o → Sound payload o
-  id-goes u (Made id) q e = plan-goes u id (planned u (length payload)) refl (id-small (t .header) payload id q) e
-  id-goes u (NotMade r) q e = let z : _≡_ {A = ℕ} 0 1 = cc in absurd (omega arith)
+  id-goes : (u : Mtu) (m : MadeCanId) → t .«transfer_id» .0 ≤ greatestTransferId → canIdOf (t .header) payload ≡ m → judgedId t payload u m ≡ Goes o
+      → Sound t payload o
+  id-goes u (Made id) i q e = plan-goes u id (planned u (length payload)) i q refl e
+  id-goes u (NotMade r) i q e = let z : _≡_ {A = ℕ} 0 1 = cc in absurd (omega arith)
 
-  transfer-id-goes : (u : Mtu) (i : TriedCanTransferId) → judgedTransferId t payload u i ≡ Goes o → Sound payload o
-  transfer-id-goes u (ValidTransferId i) e = id-goes u (canIdOf (t .header) payload) refl e
-  transfer-id-goes u (NoTransferId r) e = let z : _≡_ {A = ℕ} 0 1 = cc in absurd (omega arith)
+  transfer-id-goes : (u : Mtu) (i : TriedCanTransferId) → triedTransferId (t .«transfer_id» .0) ≡ i → judgedTransferId t payload u i ≡ Goes o → Sound t payload o
+  transfer-id-goes u (ValidTransferId i) q e =
+      let n : ℕ = t .«transfer_id» .0 in
+      let c = first-chosen (leb n greatestTransferId) (ValidTransferId (record { 0 = n })) (NoTransferId Field) (ValidTransferId i) q (λ x. let z : _≡_ {A = ℕ} 0 1 = cc in omega arith) in
+      id-goes u (canIdOf (t .header) payload) (leb-true n greatestTransferId (c .0)) refl e
+  transfer-id-goes u (NoTransferId r) q e = let z : _≡_ {A = ℕ} 0 1 = cc in absurd (omega arith)
 
-  mtu-goes : (m : TriedMtu) → judgedMtu t payload m ≡ Goes o → Sound payload o
-  mtu-goes (ValidMtu u) e = transfer-id-goes u (triedTransferId (t .«transfer_id» .0)) e
+  mtu-goes : (m : TriedMtu) → judgedMtu t payload m ≡ Goes o → Sound t payload o
+  mtu-goes (ValidMtu u) e = transfer-id-goes u (triedTransferId (t .«transfer_id» .0)) refl e
   mtu-goes (NoMtu r) e = let z : _≡_ {A = ℕ} 0 1 = cc in absurd (omega arith)
 
-pub goes-sound : (mtu : ℕ) (t : Transfer) (payload : List ℕ) (o : Outgoing) → judged mtu t payload ≡ Goes o → Sound payload o
+pub goes-sound : (mtu : ℕ) (t : Transfer) (payload : List ℕ) (o : Outgoing) → judged mtu t payload ≡ Goes o → Sound t payload o
 unfolding judged
 goes-sound mtu t payload o e = mtu-goes t payload o (triedMtu mtu) e

@@ -37,7 +37,8 @@ some-from i j (f ∷ fs) a e = go (ltb i (f .id)) refl (λ w. some-from i j fs (
     go true w r h = r h
     go false w r h = omega (arith, a .0, ltb-false i (f .id) w)
 
-from-above : (i j : ℕ) (fs : List Frame) → i < j → AllFrom j fs → allAbove i fs ≡ true
+-- where no ID is below j, all are above any i below j
+pub from-above : (i j : ℕ) (fs : List Frame) → i < j → AllFrom j fs → allAbove i fs ≡ true
 from-above i j [] h a = refl
 from-above i j (f ∷ fs) h a = let l : i < f .id = omega (arith, a .0) in rw (lt-ltb i (f .id) l) (from-above i j fs h (a .1))
 

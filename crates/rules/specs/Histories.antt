@@ -1,6 +1,6 @@
 -- Histories: frames that come one after the other, and what one source hears of them. The caller lends the same store at each call and writes nothing in it
 -- between; an answer's bytes are read at once, from the frame and from the store as the call left it.
-use Prim.Native.Nat.{ℕ}
+use Prim.Native.Nat.{ℕ, _%_}
 use mathlib.Core.Bool.{Bool, true, false, cond}
 use mathlib.Core.List.{List, [], _∷_}
 use lib.Dec.{eqb}
@@ -10,6 +10,7 @@ use Rattle.rules.specs.declared.subscription.Port.{Port}
 use Rattle.rules.specs.declared.subscription.Settings.{Settings}
 use Rattle.rules.specs.declared.receive.Reading.{Reading}
 use Rattle.rules.specs.declared.receive.Reading.the-variants.{Ours, NotOurs, Refused}
+use Rattle.rules.specs.Limits.{nodes}
 use Rattle.rules.specs.Frames.{Frame}
 use Rattle.rules.specs.Answers.{Answer, shown}
 use Rattle.rules.specs.Receiver.{Receiver, Outcome, reading, sourceIn, received}
@@ -47,13 +48,24 @@ readFrom n (Refused r) = false
 unfoldable pub isFrom : Port → ℕ → Frame → Bool
 isFrom port n f = readFrom n (reading port f)
 
--- the good frames of source n
-abbrev pub only : Port → ℕ → List Frame → List Frame
-only port n [] = []
-only port n (f ∷ fs) = cond (isFrom port n f) (f ∷ only port n fs) (only port n fs)
+-- a frame whose CAN ID has n in its low seven bits, good or not
+abbrev pub hasLow : ℕ → Frame → Bool
+hasLow n f = eqb (f .id % nodes) n
+
+-- the frames of a run that pass a test
+abbrev pub kept : (Frame → Bool) → List Frame → List Frame
+kept test [] = []
+kept test (f ∷ fs) = cond (test f) (f ∷ kept test fs) (kept test fs)
 
 -- what those are told, among all the others
+abbrev pub heardBy : (Frame → Bool) → Settings → Receiver → List Frame → List Told
+heardBy test s w [] = []
+heardBy test s w (f ∷ fs) =
+    cond (test f) (tells f (received s w f) ∷ heardBy test s (received s w f .receiver) fs) (heardBy test s (received s w f .receiver) fs)
+
+-- the good frames of source n, and what they are told
+abbrev pub only : Port → ℕ → List Frame → List Frame
+only port n fs = kept (isFrom port n) fs
+
 abbrev pub heard : Settings → ℕ → Receiver → List Frame → List Told
-heard s n w [] = []
-heard s n w (f ∷ fs) =
-    cond (isFrom (s .port) n f) (tells f (received s w f) ∷ heard s n (received s w f .receiver) fs) (heard s n (received s w f .receiver) fs)
+heard s n w fs = heardBy (isFrom (s .port) n) s w fs

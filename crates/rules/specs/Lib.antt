@@ -15,4 +15,6 @@ pub mod Answers
 pub mod Source
 pub mod Receiver
 pub mod Histories
+pub mod Demand3
+pub mod Beyond
 pub mod Bench

@@ -29,7 +29,7 @@ module _ (j : Judged) (t : CanTransmitter) (q : ArrayQueue) (ps : List (List ℕ
       (subst (λ (s : Sent). Sends (Refused why) t q ps transfer payload s ps) (sym er)
       (record { answered = refl; counts = refl; queued = refl; left = refl; capacity = refl; kept = (refl, refl) }))
 
-  pub sends-done : (o : Outgoing) (q′ : ArrayQueue) (ps′ : List (List ℕ)) → j ≡ Goes o → Sound payload o
+  pub sends-done : (o : Outgoing) (q′ : ArrayQueue) (ps′ : List (List ℕ)) → j ≡ Goes o → Sound transfer payload o
       → r ≡ record { transmitter = withCounts t (counted (Goes o) (countsOf t)); queue = q′; answer = Done }
       → Puts (marksOf transfer (o .id)) (framesOf (o .mtu) (transfer .«transfer_id» .0) payload) q ps q′ ps′ → Sends j t q ps transfer payload r ps′
   sends-done o q′ ps′ e sound er p =

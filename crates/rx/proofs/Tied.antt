@@ -124,7 +124,7 @@ put-own e n store =
 
 module _ (words : List (List ℕ)) (store : List ℕ) where
   -- the slot of source n is the one that its words are read as
-  slot-viewed : (n : ℕ) → getD (map slotOf words) n freshSlot ≡ slotOf (getD words n [])
+  pub slot-viewed : (n : ℕ) → getD (map slotOf words) n freshSlot ≡ slotOf (getD words n [])
   slot-viewed n = ap (getD (map slotOf words) n) (sym (fresh-words .1)) ∙ get-map slotOf words n []
 
   ruled-tied : (r : Admitted) → AdmittedFits r → (e n : ℕ) (a : Arrival) (bytes : List ℕ)

@@ -15,7 +15,7 @@ use Rattle.rules.specs.Histories.{run, only}
 use Rattle.rules.specs.Demand3.{Sent, IsRepeat, NoException, Plain}
 use Rattle.rules.specs.Beyond.{Arrives, Settles, Stays, stuttering, atTimes, Confession}
 use Rattle.rules.proofs.Steps.{delivered}
-use Rattle.rules.proofs.Alone.{Course, Roomy, run-roomy}
+use Rattle.rules.proofs.OwnCourse.{Course, Roomy, run-roomy}
 use Rattle.rules.proofs.Deliver.{gist}
 use Rattle.rules.proofs.Stay.{course-idle, run-beyond}
 use Rattle.rules.proofs.Stutter.{delivered-again, transfer-stutters}

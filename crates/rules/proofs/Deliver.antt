@@ -27,7 +27,7 @@ use Rattle.rules.proofs.Crc.{residue}
 use Rattle.rules.proofs.Plan.{alone, several}
 use Rattle.rules.proofs.Session.{laid, length-laid}
 use Rattle.rules.proofs.Steps.{arrival, delivered, underWay, Free, first-opens, single-delivers, middle-joins, last-delivers}
-use Rattle.rules.proofs.Alone.{toldAt, Course, after, course}
+use Rattle.rules.proofs.OwnCourse.{toldAt, Course, after, course}
 use Rattle.rules.proofs.Sent.{frameSent, Fits, sent-turn, frames-fit, framed-alone, framed-several}
 
 -- ---- the bytes that a delivery shows
@@ -107,10 +107,12 @@ module _ (s : Settings) (n : ℕ) (t : Sent) (to : SentTo (s .port) n t) (begin 
     -- a middle frame joins
     pub next-joins : (toggle : Bool) (came bytes : List ℕ) (now : ℕ) → length (tailed bytes (tailByte false false toggle (t .transferId))) ≤ greatestFrame
         → (fs : List Frame)
-        → gist (course s begin (sofar toggle came) (frameSent t now bytes false false toggle ∷ fs)) ≡ hearing silence (gist (course s begin (sofar (not toggle) (came ++ bytes)) fs))
+        → gist (course s begin (sofar toggle came) (frameSent t now bytes false false toggle ∷ fs))
+        ≡ hearing silence (gist (course s begin (sofar (not toggle) (came ++ bytes)) fs))
     next-joins toggle came bytes now fits fs =
         ap gist
-        (sent-next (sofar toggle came) now bytes false false toggle fits _ (middle-joins (s .timeout) (t .header) now (t .transferId) last stamp (t .loopback) toggle came part bytes) fs)
+        (sent-next (sofar toggle came) now bytes false false toggle fits _
+        (middle-joins (s .timeout) (t .header) now (t .transferId) last stamp (t .loopback) toggle came part bytes) fs)
 
     -- the last hands over all bytes before the CRC, cut to the extent
     pub last-ends : (xs : List ℕ) (toggle : Bool) (came bytes : List ℕ) (now : ℕ) → came ++ bytes ≡ withCrc crcStart xs

@@ -14,7 +14,7 @@ use Rattle.rules.specs.Histories.{run, isFrom, hasLow, only, heard}
 use Rattle.rules.specs.Demand3.{Sent, SentTo, framesSent, NoException, Plain, plain, owed, atTheLast, Quiet, Demand3, inBook, slotInBook}
 use Rattle.rules.proofs.Receiver.{source-below, part-within, cell-size}
 use Rattle.rules.proofs.Steps.{delivered}
-use Rattle.rules.proofs.Alone.{Course, course, good-picks, low-picks, Roomy, run-roomy, own-course, apart}
+use Rattle.rules.proofs.OwnCourse.{Course, course, good-picks, low-picks, Roomy, run-roomy, own-course, apart}
 use Rattle.rules.proofs.Sent.{sent-own}
 use Rattle.rules.proofs.Deliver.{gist, transfer-delivers}
 use Rattle.rules.proofs.Repeat.{transfer-quiet}

@@ -16,7 +16,7 @@ pub mod Source
 pub mod Receiver
 pub mod IdRule
 pub mod Steps
-pub mod Alone
+pub mod OwnCourse
 pub mod Sent
 pub mod Deliver
 pub mod Repeat

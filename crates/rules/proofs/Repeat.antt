@@ -18,7 +18,7 @@ use Rattle.rules.specs.Source.{Cell, Turn}
 use Rattle.rules.specs.Demand3.{arriving, Sent, SentTo, framesSent, IsRepeat, plain, Undelivered, Quiet}
 use Rattle.rules.proofs.IdRule.{repeat-or-new}
 use Rattle.rules.proofs.Steps.{arrival, Free, repeat-passes, stray-refused}
-use Rattle.rules.proofs.Alone.{turnAt, toldAt, course}
+use Rattle.rules.proofs.OwnCourse.{turnAt, toldAt, course}
 use Rattle.rules.proofs.Sent.{frameSent, Fits, sent-turn, frames-fit}
 
 -- a slot at which a frame is a repeat is free: it expects another ID

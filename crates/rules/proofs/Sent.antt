@@ -27,7 +27,7 @@ use Rattle.rules.proofs.Plan.{size-bounds, alone, several}
 use Rattle.rules.proofs.Transfer.{body-tailed, carried-alone, carried-several, frame-fits}
 use Rattle.rules.proofs.Receiver.{from-source}
 use Rattle.rules.proofs.Steps.{arrival}
-use Rattle.rules.proofs.Alone.{turnAt, turn-ours}
+use Rattle.rules.proofs.OwnCourse.{turnAt, turn-ours}
 
 -- ---- one frame of a transfer
 
@@ -53,7 +53,14 @@ module _ (port : Port) (n : ℕ) (t : Sent) (to : SentTo port n t) (stamp : ℕ)
   sent-read =
       let tail : ℕ = tailByte start end toggle (t .transferId) in
       let some : eqb (length (tailed bytes tail)) 0 ≡ false = ne-eqb (length (tailed bytes tail)) 0 (omega (arith, length-append bytes (tail ∷ []))) in
-      rw (some, le-leb (length (tailed bytes tail)) greatestFrame fits, to .addressed .read, to .addressed .wanted, tail-there bytes tail, tail-back start end toggle (t .transferId) (to .id))
+      rw (
+        some,
+        le-leb (length (tailed bytes tail)) greatestFrame fits,
+        to .addressed .read,
+        to .addressed .wanted,
+        tail-there bytes tail,
+        tail-back start end toggle (t .transferId) (to .id),
+      )
       refl
 
   -- it is a frame of its source

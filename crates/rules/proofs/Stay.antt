@@ -19,7 +19,7 @@ use Rattle.rules.specs.Histories.{run}
 use Rattle.rules.specs.Beyond.{opens, NoneOpens}
 use Rattle.rules.proofs.Source.{part-stays}
 use Rattle.rules.proofs.Receiver.{ours-read, beyond-kept}
-use Rattle.rules.proofs.Alone.{turnAt, course}
+use Rattle.rules.proofs.OwnCourse.{turnAt, course}
 
 module _ (s : Settings) where
   -- a frame that can open no session leaves a cell that has none its part, and no session

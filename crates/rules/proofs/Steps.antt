@@ -1,6 +1,6 @@
 -- THE STEPS OF A TRANSFER, one equation for the answer and for what the frame leaves: what a frame does to the cell of its source, by the role that it has. A
 -- session is named by the bytes that came (`sessionOf`, `laid`), so each equation follows from the ID rule's outcome and from how bytes join.
-use mathlib.Core.Path.{_≡_, refl, ap}
+use mathlib.Core.Path.{_≡_, refl, ap, _∙_}
 use mathlib.Core.Bool.{Bool, true, false, not, _&&_, Bool·beq}
 use mathlib.Core.List.{List, _++_}
 use Prim.Native.Nat.{ℕ, _+_, _-_, _%_, _≤_, min}
@@ -22,7 +22,7 @@ use Rattle.rules.specs.Limits.{transferIds}
 use Rattle.rules.specs.Crc.{crc}
 use Rattle.rules.specs.Slot.{restarted, admitted}
 use Rattle.rules.specs.Session.{awaits}
-use Rattle.rules.specs.Answers.{nothing, refusedBy}
+use Rattle.rules.specs.Answers.{Answer, nothing, refusedBy}
 use Rattle.rules.specs.Source.{Cell, leaves, deliveredAt, ended, continued, inSession, goesOn, byIdRule, turn}
 use Rattle.rules.specs.Demand3.{IsRepeat}
 use Rattle.rules.proofs.Session.{sessionOf, laid, length-laid, joined-first, stored-first, joined-came, stored-came}
@@ -52,9 +52,17 @@ underWay id last stamp loopback toggle came part = record {
 abbrev pub Free : ℕ → Slot → Type 0
 Free id slot = id ≡ slot .expected .0 → slot .session ≡ Closed
 
-pub beq-self : (b : Bool) → Bool·beq b b ≡ true
+beq-self : (b : Bool) → Bool·beq b b ≡ true
 beq-self true = refl
 beq-self false = refl
+
+beq-not : (b : Bool) → Bool·beq (not b) b ≡ false
+beq-not true = refl
+beq-not false = refl
+
+and-false : (b : Bool) → (b && false) ≡ false
+and-false true = refl
+and-false false = refl
 
 module _ (timeout : ℕ) (c : Cell) (a : Arrival) (bytes : List ℕ) where
   -- A REPEAT CHANGES NOTHING, and is answered nothing
@@ -75,19 +83,24 @@ module _ (timeout : ℕ) (c : Cell) (h : Header) (stamp : ℕ) (loopback : Bool)
       ≡ record { answer = nothing; cell = underWay id (c .slot .«last_time») stamp loopback false bytes (c .part) }
   unfolding turn goesOn inSession continued
   first-opens new free =
-      rw (free-admitted timeout (c .slot) id stamp new free, beq-self loopback, stored-first bytes (c .part), joined-first (length (c .part)) (arrival h stamp loopback id true false true) bytes)
+      rw (
+        free-admitted timeout (c .slot) id stamp new free,
+        beq-self loopback,
+        stored-first bytes (c .part),
+        joined-first (length (c .part)) (arrival h stamp loopback id true false true) bytes,
+      )
       refl
 
   -- A SINGLE FRAME DELIVERS, whatever its toggle and whatever session was open
   pub single-delivers : (toggle : Bool) → (IsRepeat timeout (c .slot) id stamp → ⊥)
       → turn timeout c (arrival h stamp loopback id true true toggle) bytes
-      ≡ leaves (deliveredAt (arrival h stamp loopback id true true toggle) stamp loopback (OfFrame (min (length (c .part)) (length bytes)))) (delivered id stamp) (c .part)
+      ≡ leaves (deliveredAt (arrival h stamp loopback id true true toggle) stamp loopback (OfFrame (min (length (c .part)) (length bytes))))
+      (delivered id stamp) (c .part)
   unfolding turn goesOn
   single-delivers toggle new =
-      id-rule timeout (c .slot) id stamp
-      (λ x. byIdRule x c (arrival h stamp loopback id true true toggle) bytes
-      ≡ leaves (deliveredAt (arrival h stamp loopback id true true toggle) stamp loopback (OfFrame (min (length (c .part)) (length bytes)))) (delivered id stamp) (c .part))
-      (λ r. absurd (new r)) (λ _ q. rw q refl) (λ _ q. refl)
+      let a : Arrival = arrival h stamp loopback id true true toggle in
+      let answer : Answer = deliveredAt a stamp loopback (OfFrame (min (length (c .part)) (length bytes))) in
+      id-rule timeout (c .slot) id stamp (λ x. byIdRule x c a bytes ≡ leaves answer (delivered id stamp) (c .part)) (λ r. absurd (new r)) (λ _ q. rw q refl) (λ _ q. refl)
 
 -- ---- a transfer under way
 
@@ -96,40 +109,75 @@ expected-admitted : (timeout : ℕ) (slot : Slot) (stamp : ℕ) → admitted tim
 unfolding admitted
 expected-admitted timeout slot stamp = rw (eq-eqb (slot .expected .0) (slot .expected .0) refl) refl
 
-module _ (timeout : ℕ) (h : Header) (now : ℕ) (id : ℕ) (last : LastTime) (stamp : ℕ) (loopback toggle : Bool) (came part : List ℕ) where
-  abbrev c : Cell
-  c = underWay id last stamp loopback toggle came part
-
-  -- A MIDDLE FRAME JOINS: its bytes come behind those that came, and the other toggle is awaited
-  pub middle-joins : (bytes : List ℕ)
-      → turn timeout c (arrival h now loopback id false false toggle) bytes
-      ≡ record { answer = nothing; cell = underWay id last stamp loopback (not toggle) (came ++ bytes) part }
-  unfolding turn goesOn inSession continued
-  middle-joins bytes =
-      rw (expected-admitted timeout (c .slot) now, beq-self loopback, beq-self toggle, length-laid came part, stored-came came bytes part, joined-came (length part) stamp loopback toggle came bytes)
-      refl
-
-  -- THE LAST FRAME DELIVERS where the residue is 0: all bytes but the CRC's two, cut to the extent, under the stamp of the first frame
-  pub last-delivers : (bytes : List ℕ) → crc (came ++ bytes) ≡ 0 → 2 ≤ length (came ++ bytes)
-      → turn timeout c (arrival h now loopback id false true toggle) bytes
-      ≡ leaves (deliveredAt (arrival h now loopback id false true toggle) stamp loopback (OfStore 0 (min (length part) (length (came ++ bytes) - 2)))) (delivered id stamp) (laid (came ++ bytes) part)
-  unfolding turn goesOn inSession continued ended
-  last-delivers bytes residue two =
-      let total : ℕ = min (length part + 2) (length (came ++ bytes)) in
-      let enough : 2 ≤ total = omega arith in
-      let len : min (length part) (total - 2) ≡ min (length part) (length (came ++ bytes) - 2) = omega arith in
-      rw (expected-admitted timeout (c .slot) now, beq-self loopback, beq-self toggle, length-laid came part, stored-came came bytes part, joined-came (length part) stamp loopback toggle came bytes, residue, le-leb 2 total enough, length-laid (came ++ bytes) part, len)
-      refl
-
--- ---- frames that do nothing for a transfer
-
--- A FRAME THAT THE SESSION DOES NOT AWAIT CHANGES NOTHING: its loopback flag, its start bit or its toggle is another
+-- a frame that the session does not await changes nothing, if it is not a whole transfer
 pub unawaited-passes : (timeout : ℕ) (c : Cell) (s : TheSession) (a : Arrival) (bytes : List ℕ) → c .slot .session ≡ With s
     → a .tail .«transfer_id» ≡ c .slot .expected → (a .tail .start && a .tail .end) ≡ false → awaits s a ≡ false
     → turn timeout c a bytes ≡ record { answer = nothing; cell = c }
 unfolding turn goesOn inSession
 unawaited-passes timeout c s a bytes running same several other =
     rw (same, expected-admitted timeout (c .slot) (a .stamp), several, running, other) (rw (← running) refl)
+
+module _ (timeout : ℕ) (h : Header) (now : ℕ) (id : ℕ) (last : LastTime) (stamp : ℕ) (loopback toggle : Bool) (came part : List ℕ) where
+  abbrev c : Cell
+  c = underWay id last stamp loopback toggle came part
+
+  -- a frame that the session awaits: its bytes come behind those that came, and the other toggle is awaited
+  awaited-joins : (end : Bool) (bytes : List ℕ)
+      → turn timeout c (arrival h now loopback id false end toggle) bytes
+      ≡ continued (c .slot) (laid (came ++ bytes) part) (arrival h now loopback id false end toggle) (sessionOf (length part) stamp loopback (not toggle) (came ++ bytes))
+  unfolding turn goesOn inSession
+  awaited-joins end bytes =
+      rw (
+        expected-admitted timeout (c .slot) now,
+        beq-self loopback,
+        beq-self toggle,
+        length-laid came part,
+        stored-came came bytes part,
+        joined-came (length part) stamp loopback toggle came bytes,
+      )
+      refl
+
+  -- A MIDDLE FRAME JOINS, and the session goes on
+  pub middle-joins : (bytes : List ℕ)
+      → turn timeout c (arrival h now loopback id false false toggle) bytes
+      ≡ record { answer = nothing; cell = underWay id last stamp loopback (not toggle) (came ++ bytes) part }
+  unfolding continued
+  middle-joins bytes = awaited-joins false bytes
+
+  -- THE LAST FRAME DELIVERS where the residue is 0: all bytes but the CRC's two, cut to the extent, under the stamp of the first frame
+  pub last-delivers : (bytes : List ℕ) → crc (came ++ bytes) ≡ 0 → 2 ≤ length (came ++ bytes)
+      → turn timeout c (arrival h now loopback id false true toggle) bytes
+      ≡ leaves (deliveredAt (arrival h now loopback id false true toggle) stamp loopback (OfStore 0 (min (length part) (length (came ++ bytes) - 2))))
+      (delivered id stamp) (laid (came ++ bytes) part)
+  unfolding continued ended
+  last-delivers bytes residue two =
+      let total : ℕ = min (length part + 2) (length (came ++ bytes)) in
+      let enough : 2 ≤ total = omega arith in
+      let len : min (length part) (total - 2) ≡ min (length part) (length (came ++ bytes) - 2) = omega arith in
+      awaited-joins true bytes ∙ rw (residue, le-leb 2 total enough, length-laid (came ++ bytes) part, len) refl
+
+  abbrev awaiting : TheSession
+  awaiting = sessionOf (length part) stamp loopback toggle came
+
+  -- A FRAME THAT THE SESSION DOES NOT AWAIT CHANGES NOTHING: one with the other loopback flag ..
+  pub other-loopback : (flag start end this : Bool) (bytes : List ℕ) → loopback ≡ not flag → (start && end) ≡ false
+      → turn timeout c (arrival h now flag id start end this) bytes ≡ record { answer = nothing; cell = c }
+  other-loopback flag start end this bytes e several =
+      unawaited-passes timeout c awaiting (arrival h now flag id start end this) bytes refl refl several (rw (e, beq-not flag) refl)
+
+  -- .. one that starts a second time ..
+  pub second-start : (flag this : Bool) (bytes : List ℕ) → turn timeout c (arrival h now flag id true false this) bytes ≡ record { answer = nothing; cell = c }
+  second-start flag this bytes =
+      unawaited-passes timeout c awaiting (arrival h now flag id true false this) bytes refl refl refl (rw (and-false (Bool·beq loopback flag)) refl)
+
+  -- .. and one with the other toggle
+  pub other-toggle : (flag start end this : Bool) (bytes : List ℕ) → toggle ≡ not this → (start && end) ≡ false
+      → turn timeout c (arrival h now flag id start end this) bytes ≡ record { answer = nothing; cell = c }
+  other-toggle flag start end this bytes e several =
+      unawaited-passes timeout c awaiting (arrival h now flag id start end this) bytes refl refl several
+      (rw (e, beq-not this, and-false (Bool·beq loopback flag && Bool·beq false start)) refl)
+
+-- ---- without a session
 
 -- A FRAME WITHOUT A START THAT FINDS NO SESSION is refused by 5, and leaves none
 pub stray-refused : (timeout : ℕ) (c : Cell) (h : Header) (stamp : ℕ) (loopback : Bool) (id : ℕ) (end toggle : Bool) (bytes : List ℕ)

@@ -1,7 +1,7 @@
 -- EACH FRAME AGAIN RIGHT AFTER ITSELF: a transfer whose frames all stutter is delivered once. A copy of any frame but the last is not awaited by the session that
 -- the frame left, since the start bit or the toggle is another; and the copy of the last meets the slot of a delivery, at which it is a repeat if it is in time.
 use mathlib.Core.Path.{_≡_, refl, ap, _∙_, subst}
-use mathlib.Core.Bool.{Bool, true, false, not, _&&_, Bool·beq}
+use mathlib.Core.Bool.{Bool, true, false, not}
 use mathlib.Core.Logic.{⊎-elim}
 use mathlib.Core.List.{List, [], _∷_, _++_}
 use Prim.Native.Nat.{ℕ, zero, suc, _-_, _*_, _≤_, _<_}
@@ -17,25 +17,19 @@ use Rattle.rules.specs.TailByte.{tailByte}
 use Rattle.rules.specs.Plan.{frames}
 use Rattle.rules.specs.Transfer.{withCrc, content, tailed, cut, framesOf}
 use Rattle.rules.specs.Frames.{Frame}
-use Rattle.rules.specs.Session.{awaits}
-use Rattle.rules.specs.Source.{Cell}
+use Rattle.rules.specs.Answers.{nothing}
+use Rattle.rules.specs.Source.{Cell, turn}
 use Rattle.rules.specs.Demand3.{Sent, SentTo, IsRepeat, NoException, Plain, silence, owed}
 use Rattle.rules.specs.Beyond.{Young, stuttering}
 use Rattle.rules.proofs.Plan.{alone, several}
-use Rattle.rules.proofs.Session.{sessionOf}
-use Rattle.rules.proofs.Steps.{arrival, delivered, beq-self, repeat-passes, unawaited-passes}
-use Rattle.rules.proofs.Alone.{course}
+use Rattle.rules.proofs.Steps.{arrival, delivered, repeat-passes, second-start, other-toggle}
+use Rattle.rules.proofs.OwnCourse.{course}
 use Rattle.rules.proofs.Sent.{frameSent, Fits, frames-fit, framed-alone, framed-several}
 use Rattle.rules.proofs.Deliver.{comes, gist, hearing, sent-next, handed, sofar, one-ends, first-begins, next-joins, last-ends}
 
 -- at a slot that a delivery left, the same ID in time is a repeat
 pub delivered-again : (timeout id from stamp : ℕ) → Young timeout from stamp → IsRepeat timeout (delivered id from) id stamp
 delivered-again timeout id from stamp y = record { before = refl; last = from; seen = refl; counts = y .counts; young = y .young }
-
--- the other toggle is not this one
-beq-not : (b : Bool) → Bool·beq (not b) b ≡ false
-beq-not true = refl
-beq-not false = refl
 
 module _ (s : Settings) (n : ℕ) (t : Sent) (to : SentTo (s .port) n t) (begin : ℕ) where
   -- a copy in time of the last frame
@@ -53,16 +47,13 @@ module _ (s : Settings) (n : ℕ) (t : Sent) (to : SentTo (s .port) n t) (begin 
     abbrev running : Bool → List ℕ → Cell
     running = sofar s n t to begin last stamp part
 
-    -- a copy of another frame
-    copy-passes : (awaited : Bool) (came bytes : List ℕ) (now : ℕ) (start toggle : Bool) → (start && false) ≡ false
-        → awaits (sessionOf (length part) stamp (t .loopback) awaited came) (arrival (t .header) now (t .loopback) (t .transferId) start false toggle) ≡ false
-        → length (tailed bytes (tailByte start false toggle (t .transferId))) ≤ greatestFrame → (fs : List Frame)
+    -- a copy of another frame, which the session does not await
+    copy-passes : (awaited : Bool) (came bytes : List ℕ) (now : ℕ) (start toggle : Bool) → length (tailed bytes (tailByte start false toggle (t .transferId))) ≤ greatestFrame
+        → turn (s .timeout) (running awaited came) (arrival (t .header) now (t .loopback) (t .transferId) start false toggle) bytes
+        ≡ record { answer = nothing; cell = running awaited came }
+        → (fs : List Frame)
         → gist (course s begin (running awaited came) (frameSent t now bytes start false toggle ∷ fs)) ≡ hearing silence (gist (course s begin (running awaited came) fs))
-    copy-passes awaited came bytes now start toggle more other fits fs =
-        ap gist
-        (sent-next s n t to begin (running awaited came) now bytes start false toggle fits _
-        (unawaited-passes (s .timeout) (running awaited came) (sessionOf (length part) stamp (t .loopback) awaited came)
-        (arrival (t .header) now (t .loopback) (t .transferId) start false toggle) bytes refl refl more other) fs)
+    copy-passes awaited came bytes now start toggle fits same fs = ap gist (sent-next s n t to begin (running awaited came) now bytes start false toggle fits _ same fs)
 
     -- the frames behind the first, each twice
     rest-stutters : (m : ℕ) (xs : List ℕ) (toggle : Bool) (k : ℕ) (came bytes : List ℕ) (at copied : ℕ → ℕ) → came ++ bytes ≡ withCrc crcStart xs
@@ -75,12 +66,13 @@ module _ (s : Settings) (n : ℕ) (t : Sent) (to : SentTo (s .port) n t) (begin 
     rest-stutters m xs toggle (suc k) came bytes at copied all fits y =
         let body : List ℕ = take m bytes in
         let rest : List Frame = stuttering (t .canId) (t .loopback) (λ j. at (suc j)) (λ j. copied (suc j)) (cut m (t .transferId) false (not toggle) k (drop m bytes)) in
-        let other : awaits (sessionOf (length part) stamp (t .loopback) (not toggle) (came ++ body)) (arrival (t .header) (copied 0) (t .loopback) (t .transferId) false false toggle) ≡ false =
-        rw (beq-self (t .loopback), beq-not toggle) refl in
+        let same =
+        other-toggle (s .timeout) (t .header) (copied 0) (t .transferId) last stamp (t .loopback) (not toggle) (came ++ body) part
+        (t .loopback) false false toggle body refl refl in
         let two : suc (suc (2 * k)) ≡ 2 * suc k = omega arith in
         next-joins s n t to begin last stamp part toggle came body (at 0) (fits 0) (frameSent t (copied 0) body false false toggle ∷ rest)
         ∙ ap (hearing silence)
-        (copy-passes (not toggle) (came ++ body) body (copied 0) false toggle refl other (fits 0) rest
+        (copy-passes (not toggle) (came ++ body) body (copied 0) false toggle (fits 0) same rest
         ∙ ap (hearing silence)
         (rest-stutters m xs (not toggle) k (came ++ body) (drop m bytes) (λ j. at (suc j)) (λ j. copied (suc j)) (comes m came bytes ∙ all) (λ j. fits (suc j)) y))
         ∙ ap (λ (j : ℕ). (replicate j silence ++ (handed s n t to begin stamp (take (length part) xs) ∷ silence ∷ []), delivered (t .transferId) stamp)) two
@@ -125,12 +117,14 @@ module _ (s : Settings) (n : ℕ) (t : Sent) (to : SentTo (s .port) n t) (begin 
           let count : 2 * frames (t .mtu) p - 2 ≡ suc (suc (2 * k)) = omega (arith, several p (t .mtu) h) in
           let young : Young (s .timeout) (t .at 0) (copied (suc k)) = subst (λ (j : ℕ). Young (s .timeout) (t .at 0) (copied j)) some y in
           let rest : List Frame = stuttering (t .canId) (t .loopback) (λ j. t .at (suc j)) (λ j. copied (suc j)) (cut m (t .transferId) false false k (drop m all)) in
-          let other : awaits (sessionOf (length (c .part)) (t .at 0) (t .loopback) false (take m all)) (arrival (t .header) (copied 0) (t .loopback) (t .transferId) true false true) ≡ false =
-          rw (beq-self (t .loopback)) refl in
+          let same =
+          second-start (s .timeout) (t .header) (copied 0) (t .transferId) (c .slot .«last_time») (t .at 0) (t .loopback) false (take m all) (c .part)
+          (t .loopback) true (take m all) in
           ap told (framed-several t h)
           ∙ first-begins s n t to begin c (t .at 0) (take m all) (clear .new) (clear .free h) (fits 0) (frameSent t (copied 0) (take m all) true false true ∷ rest)
           ∙ ap (hearing silence)
-          (copy-passes (c .slot .«last_time») (t .at 0) (c .part) false (take m all) (take m all) (copied 0) true true refl other (fits 0) rest
+          (copy-passes (c .slot .«last_time») (t .at 0) (c .part) false (take m all) (take m all) (copied 0) true true (fits 0) same rest
           ∙ ap (hearing silence)
-          (rest-stutters (c .slot .«last_time») (t .at 0) (c .part) m xs false k (take m all) (drop m all) (λ j. t .at (suc j)) (λ j. copied (suc j)) (take-append-drop m all) (λ j. fits (suc j)) young))
+          (rest-stutters (c .slot .«last_time») (t .at 0) (c .part) m xs false k (take m all) (drop m all) (λ j. t .at (suc j)) (λ j. copied (suc j))
+          (take-append-drop m all) (λ j. fits (suc j)) young))
           ∙ rw (count, size) refl

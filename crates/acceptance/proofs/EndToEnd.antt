@@ -6,10 +6,7 @@ use Prim.Native.Nat.{ℕ, suc, _*_, _≤_}
 use native.Mathlib.Omega.{arith}
 use lib.ListN.{length}
 use Rattle.rules.specs.declared.frame.Marks.{Marks}
-use Rattle.rules.specs.declared.send.Transfer.{Transfer}
-use Rattle.rules.specs.declared.send.Outgoing.{Outgoing}
 use Rattle.rules.specs.declared.send.Judged.{Judged}
-use Rattle.rules.specs.declared.send.Judged.the-variants.{Goes}
 use Rattle.rules.specs.declared.subscription.Settings.{Settings}
 use Rattle.rules.specs.Limits.{nodes}
 use Rattle.rules.specs.Transfer.{framesOf}
@@ -22,7 +19,7 @@ use Rattle.rules.proofs.Together.{CutAt, cut-at, together}
 use Rattle.queue.specs.Queue.{contents, free}
 use Rattle.queue.proofs.Drain.{drained}
 use Rattle.acceptance.specs.Runs.{Lent}
-use Rattle.acceptance.specs.EndToEnd.{arrivedAt, SendDone, queuedBy, scanOf, ForUs, EndToEnd}
+use Rattle.acceptance.specs.EndToEnd.{arrivedAt, SendDone, scanOf, ForUs, EndToEnd}
 use Rattle.acceptance.proofs.Granted.{sound}
 use Rattle.acceptance.proofs.Demand3.{demand3-of-code}
 

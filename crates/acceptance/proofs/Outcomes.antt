@@ -3,22 +3,19 @@ use mathlib.Core.Path.{_≡_, sym, ap, ap₂, _∙_}
 use mathlib.Core.List.{List}
 use Prim.Native.Nat.{ℕ}
 use Rattle.blocks.specs.Laid.{Copied}
-use Rattle.rules.specs.declared.frame.Marks.{Marks}
 use Rattle.rules.specs.declared.receive.Received.{Received}
 use Rattle.rules.specs.declared.send.Transfer.{Transfer}
 use Rattle.rules.specs.declared.send.Judged.{Judged}
-use Rattle.rules.specs.declared.send.Sending.{Sending}
 use Rattle.rules.specs.declared.subscription.Settings.{Settings}
 use Rattle.rules.specs.Frames.{Frame}
 use Rattle.rules.specs.Sending.{judged, granted, answer, queuedAfter, counted}
 use Rattle.rules.specs.Answers.{answerOf}
 use Rattle.queue.specs.declared.ArrayQueue.{ArrayQueue}
-use Rattle.queue.specs.Queue.{contents, free, capacityOf}
 use Rattle.queue.proofs.Alike.{Alike}
 use Rattle.tx.specs.declared.CanTransmitter.{CanTransmitter}
 use Rattle.tx.specs.declared.Sent.{Sent}
 use Rattle.tx.specs.Send.{countsOf, withCounts, verdict, freeAfter, Sends}
-use Rattle.rx.specs.Accept.{Closing, closes, accepted}
+use Rattle.rx.specs.Accept.{closes, accepted}
 use Rattle.rx.proofs.Tied.{no-second-closing}
 
 -- any promise that is an equation

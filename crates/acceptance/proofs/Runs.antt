@@ -1,15 +1,13 @@
 -- A run of `accept` calls over lent words is a run of the book's receiver, call by call: the tie of one call, lifted over the list.
-use mathlib.Core.Path.{_≡_, refl, sym, ap, _∙_}
+use mathlib.Core.Path.{_≡_, refl, ap, _∙_}
 use mathlib.Core.Bool.{Bool, cond}
 use mathlib.Core.List.{List, [], _∷_}
 use Prim.Native.Nat.{ℕ}
-use lib.ListN.{length}
 use Rattle.rules.specs.declared.subscription.Settings.{Settings}
-use Rattle.rules.specs.declared.slots.Slot.{Slot}
 use Rattle.rules.specs.Frames.{Frame}
 use Rattle.rules.specs.Receiver.{Receiver, Outcome, cellAt, received}
 use Rattle.rules.specs.Histories.{Told, tells, run, heardBy}
-use Rattle.rx.specs.Accept.{Closing, viewed, viewedAfter}
+use Rattle.rx.specs.Accept.{viewed}
 use Rattle.rx.proofs.Tied.{tied, slot-viewed}
 use Rattle.acceptance.specs.Runs.{Lent, called, leftBy, ran, answered, heardIn, slotIn}
 

@@ -1,8 +1,8 @@
 -- What making gives and every call keeps: of the queue by its promises and the book's laws of order, of the tracker by its row, of the receiver by the tie.
 use mathlib.Core.Path.{_≡_, refl, sym, ap, subst, _∙_}
-use mathlib.Core.Bool.{Bool, true, false, cond}
+use mathlib.Core.Bool.{Bool, cond}
 use mathlib.Core.List.{List, [], _∷_}
-use Prim.Native.Nat.{ℕ, suc, _+_, _-_, _*_, _<_, _≤_}
+use Prim.Native.Nat.{ℕ, suc, _-_, _*_, _<_, _≤_}
 use native.Mathlib.Omega.{arith}
 use lib.Dec.{lit<}
 use lib.ListN.{length, getD, length-replicate, getD-replicate}
@@ -19,7 +19,7 @@ use Rattle.rules.specs.declared.subscription.Settings.{Settings}
 use Rattle.rules.specs.declared.subscription.Subscribing.the-variants.{Made}
 use Rattle.rules.specs.Limits.{nodes, transferIds, greatestCapacity}
 use Rattle.rules.specs.Frames.{Frame}
-use Rattle.rules.specs.Queue.{Ordered, pushed, returned, rest, first, placed, after}
+use Rattle.rules.specs.Queue.{Ordered, rest, first, placed, after}
 use Rattle.rules.specs.Transfer.{framesOf}
 use Rattle.rules.specs.Sending.{marksOf, queuedAfter, allPushed}
 use Rattle.rules.specs.Slot.{freshSlot}
@@ -31,7 +31,7 @@ use Rattle.queue.specs.declared.ArrayQueue.{ArrayQueue}
 use Rattle.queue.specs.declared.Held.{Held}
 use Rattle.queue.specs.declared.Pushed.{Pushed}
 use Rattle.queue.specs.declared.Popped.{Popped}
-use Rattle.queue.specs.Queue.{contents, free, capacityOf, fresh, Places, Pops}
+use Rattle.queue.specs.Queue.{contents, free, fresh, Places, Pops}
 use Rattle.queue.specs.Place.{heldOf}
 use Rattle.queue.proofs.Putting.{placed-fits}
 use Rattle.queue.proofs.Fresh.{fresh-contents, fresh-free, fresh-capacity}

@@ -1,9 +1,9 @@
 -- END TO END: one scan in, one scan out. What a send put into the queue, popped in queue order and fed to a receiver on the same port with any arrival stamps, is
 -- delivered once, with payload and padding cut to the extent.
 use mathlib.Core.Path.{_≡_}
-use mathlib.Core.Bool.{Bool, true}
+use mathlib.Core.Bool.{true}
 use mathlib.Core.List.{List, [], _∷_, _++_, map}
-use mathlib.Core.Option.{Option, some}
+use mathlib.Core.Option.{some}
 use Prim.Native.Nat.{ℕ, suc}
 use lib.ListN.{length}
 use Rattle.rules.specs.declared.header.Source.the-variants.{Node}

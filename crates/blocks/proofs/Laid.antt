@@ -12,7 +12,8 @@ use Rattle.laws.proofs.Choose.{at-most-or-above}
 use Rattle.laws.proofs.Cuts.{take-min}
 use Rattle.blocks.specs.declared.Four.{Four}
 use Rattle.blocks.specs.Blocks.{fourAt, withFour, over}
-use Rattle.blocks.specs.Laid.{laid, Copied}
+use Rattle.laws.specs.Laid.{laid}
+use Rattle.blocks.specs.Laid.{Copied}
 
 -- the first i elements of s, and behind them d from there on
 abbrev pub begun : List ℕ → List ℕ → ℕ → List ℕ

@@ -4,7 +4,8 @@ ghost use mathlib.Core.Path.{_≡_};
 ghost use Prim.Native.Nat.{_+_, _≤_, _<_};
 ghost use lib.ListN.{length, getD, set};
 ghost use Rattle.blocks.specs.Blocks.{fourAt, withFour, over};
-ghost use Rattle.blocks.specs.Laid.{laid, Copied};
+ghost use Rattle.laws.specs.Laid.{laid};
+ghost use Rattle.blocks.specs.Laid.{Copied};
 
 // The byte k places behind i.
 fn byte_at(src: &[u8], i: usize, k: usize) -> u8

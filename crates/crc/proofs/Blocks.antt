@@ -19,7 +19,7 @@ use Rattle.crc.specs.Wide.{value, wide}
 pub wide-lt : (k x : ℕ) → wide k x < 2 ^ 16
 unfolding wide
 wide-lt zero x = lit< tt
-wide-lt (suc k) x = byte-lt (wide k (x / 2 ^ 8)) (x % 2 ^ 8) (wide-lt k (x / 2 ^ 8)) (mod-lt x (lit< tt))
+wide-lt (suc k) x = byte-lt (wide k (x / 2 ^ 8)) (x % 2 ^ 8)
 
 -- a byte that is a sum, on a register that is one
 byte-xor : (c d a b : ℕ) → c < 2 ^ 16 → d < 2 ^ 16 → a < 2 ^ 8 → b < 2 ^ 8 → crcByte (bitXor c d) (bitXor a b) ≡ bitXor (crcByte c a) (crcByte d b)

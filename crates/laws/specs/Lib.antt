@@ -1,3 +1,4 @@
 pub mod Tables
 pub mod Digits
 pub mod Xor
+pub mod Laid

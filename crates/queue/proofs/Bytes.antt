@@ -9,7 +9,7 @@ use lib.Dec.{eqb}
 use lib.ListN.{length, getD, take, drop, replicate, length-take, length-drop}
 use lib.Seq.{getD-take, length-take-le, take-all, take-at, drop-at, take-append-seam}
 use borrow.Rule.Slice.PartMut.{putMid}
-use Rattle.blocks.specs.Laid.{laid}
+use Rattle.laws.specs.Laid.{laid}
 use Rattle.rules.specs.Limits.{greatestFrame}
 use Rattle.rules.specs.Frames.{frame}
 use Rattle.rules.specs.declared.frame.Marks.{Marks}

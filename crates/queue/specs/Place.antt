@@ -5,7 +5,7 @@ use mathlib.Core.Option.{Option, none, some}
 use Prim.Native.Nat.{ℕ, _+_, _*_, _/_, _%_, min}
 use lib.Dec.{eqb}
 use lib.ListN.{length, getD, take, drop, replicate}
-use Rattle.blocks.specs.Laid.{laid}
+use Rattle.laws.specs.Laid.{laid}
 use Rattle.rules.specs.Limits.{greatestFrame}
 use Rattle.rules.specs.Frames.{Frame, frame}
 use Rattle.rules.specs.declared.frame.Marks.{Marks}

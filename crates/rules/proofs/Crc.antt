@@ -56,9 +56,9 @@ mixed c b =
     ∙ xor-block 8 (c / 2 ^ 8) b (c % 2 ^ 8) 0 (mod-lt c (pow-pos 8)) (lit< tt)
     ∙ ap (λ (n : ℕ). bitXor (c / 2 ^ 8) b * 2 ^ 8 + n) (xor-zero-r (c % 2 ^ 8))
 
-pub byte-lt : (c b : ℕ) → c < 2 ^ 16 → b < 2 ^ 8 → crcByte c b < 2 ^ 16
-unfolding crcByte
-byte-lt c b h k = bits-lt 8 (bitXor c (b * 2 ^ 8)) (xor-lt 16 c (b * 2 ^ 8) h (omega arith))
+pub byte-lt : (c b : ℕ) → crcByte c b < 2 ^ 16
+unfolding crcByte crcBits
+byte-lt c b = bit-lt (crcBits 7 (bitXor c (b * 2 ^ 8)))
 
 -- a register that is added its own top byte
 own-top : (c : ℕ) → crcByte c (c / 2 ^ 8) ≡ c % 2 ^ 8 * 2 ^ 8
@@ -132,9 +132,9 @@ bits-xor (suc k) x y hx hy = ap crcBit (bits-xor k x y hx hy) ∙ bit-xor (crcBi
 
 -- ---- within 16 bits, and how short a list of residue 0 can be
 
-pub from-lt : (xs : List ℕ) (c : ℕ) → c < 2 ^ 16 → ((k : ℕ) → getD xs k 0 < 2 ^ 8) → crcFrom c xs < 2 ^ 16
-from-lt [] c h w = h
-from-lt (x ∷ xs) c h w = from-lt xs (crcByte c x) (byte-lt c x h (w zero)) (λ k. w (suc k))
+pub from-lt : (xs : List ℕ) (c : ℕ) → c < 2 ^ 16 → crcFrom c xs < 2 ^ 16
+from-lt [] c h = h
+from-lt (x ∷ xs) c h = from-lt xs (crcByte c x) (byte-lt c x)
 
 one-byte : (b : ℕ) → b < 2 ^ 8 → crcByte crcStart b ≡ 0 → ⊥
 unfolding crcByte crcBits crcBit

@@ -25,7 +25,8 @@ use Rattle.rules.specs.Source.{Cell, Turn, turn}
 use Rattle.rules.specs.Demand3.{arriving, Sent, SentTo, framesSent, IsRepeat, NoException, Plain, delivery, silence, plain, owed, atTheLast}
 use Rattle.rules.proofs.Crc.{residue}
 use Rattle.rules.proofs.Plan.{alone, several}
-use Rattle.rules.proofs.Session.{laid, length-laid}
+use Rattle.laws.specs.Laid.{laid}
+use Rattle.rules.proofs.Session.{length-laid}
 use Rattle.rules.proofs.Steps.{arrival, delivered, underWay, Free, first-opens, single-delivers, middle-joins, last-delivers}
 use Rattle.rules.proofs.OwnCourse.{toldAt, Course, after, course}
 use Rattle.rules.proofs.Sent.{frameSent, Fits, sent-turn, frames-fit, framed-alone, framed-several}

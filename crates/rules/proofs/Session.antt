@@ -11,6 +11,7 @@ use lib.ListN.{length, take, drop, length-append, length-take, length-drop, drop
 use lib.Seq.{take-at, drop-append-add, drop-drop, take-all}
 use Rattle.laws.proofs.Choose.{at-most-or-above}
 use Rattle.laws.proofs.Cuts.{take-append}
+use Rattle.laws.specs.Laid.{laid}
 use Rattle.rules.specs.declared.receive.Arrival.{Arrival}
 use Rattle.rules.specs.declared.slots.Session.{Session as TheSession}
 use Rattle.rules.specs.Crc.{crcStart, crc}
@@ -35,10 +36,7 @@ sessionOf extent stamp loopback toggle came = record {
   total = min (extent + 2) (length came);
 }
 
--- the part with these bytes over its front
-abbrev pub laid : List ℕ → List ℕ → List ℕ
-laid came part = take (length part) came ++ drop (length came) part
-
+-- bytes laid over a part leave its length
 pub length-laid : (came part : List ℕ) → length (laid came part) ≡ length part
 length-laid came part = simp (length-append, length-take, length-drop) (omega arith)
 

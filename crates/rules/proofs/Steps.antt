@@ -7,6 +7,7 @@ use Prim.Native.Nat.{ℕ, _+_, _-_, _%_, _≤_, min}
 use native.Mathlib.Omega.{arith}
 use lib.ListN.{length}
 use borrow.Author.Tests.{eq-eqb, le-leb}
+use Rattle.laws.specs.Laid.{laid}
 use Rattle.rules.specs.declared.refusal.Refusal.the-variants.{NoSession}
 use Rattle.rules.specs.declared.header.Header.{Header}
 use Rattle.rules.specs.declared.receive.Arrival.{Arrival}
@@ -25,7 +26,7 @@ use Rattle.rules.specs.Session.{awaits}
 use Rattle.rules.specs.Answers.{Answer, nothing, refusedBy}
 use Rattle.rules.specs.Source.{Cell, leaves, deliveredAt, ended, continued, inSession, goesOn, byIdRule, turn}
 use Rattle.rules.specs.Demand3.{IsRepeat}
-use Rattle.rules.proofs.Session.{sessionOf, laid, length-laid, joined-first, stored-first, joined-came, stored-came}
+use Rattle.rules.proofs.Session.{sessionOf, length-laid, joined-first, stored-first, joined-came, stored-came}
 use Rattle.rules.proofs.IdRule.{id-rule, repeat-admitted}
 
 -- a frame as it is read: its header, stamp, loopback flag and transfer ID, and the three bits of its tail

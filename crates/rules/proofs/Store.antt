@@ -56,3 +56,11 @@ module _ (e n : ℕ) (store part : List ℕ) (room : n * e + e ≤ length store)
       ap (λ (l : List ℕ). partOf e m l) (append-assoc (take (n * e) store) part (drop (n * e + e) store)) ∙ before (m * e) (part ++ drop (n * e + e) store) k
       ∙ sym (before (m * e) (drop (n * e) store) k) ∙ ap (λ (l : List ℕ). partOf e m l) (take-append-drop (n * e) store))
       (at-most-or-above n m)
+
+-- the part that lies there, put in its place, is no change
+pub put-own : (e n : ℕ) (store : List ℕ) → withPart e n store (partOf e n store) ≡ store
+put-own e n store =
+    let rest : List ℕ = drop (n * e) store in
+    append-assoc (take (n * e) store) (take e rest) (drop (n * e + e) store)
+    ∙ ap (λ (l : List ℕ). take (n * e) store ++ (take e rest ++ l)) (sym (drop-drop e (n * e) store))
+    ∙ ap (λ (l : List ℕ). take (n * e) store ++ l) (take-append-drop e rest) ∙ take-append-drop (n * e) store

@@ -1,13 +1,12 @@
 -- Beyond demand 3: what a slot is after a delivery, how long delivered bytes stay, and what the cable's habit of sending twice comes to.
 use mathlib.Core.Path.{_≡_}
-use mathlib.Core.Bool.{Bool, true, false, not, _&&_}
+use mathlib.Core.Bool.{Bool, false, not, _&&_}
 use mathlib.Core.List.{List, [], _∷_, _++_, map}
 use Prim.Native.Nat.{ℕ, suc, _+_, _-_, _*_, _%_, _^_, _<_, _≤_}
 use lib.ListN.{length, drop, replicate}
 use Rattle.rules.specs.declared.subscription.Settings.{Settings}
 use Rattle.rules.specs.declared.slots.LastTime.the-variants.{At}
 use Rattle.rules.specs.declared.slots.Open.the-variants.{Closed}
-use Rattle.rules.specs.declared.slots.Slot.{Slot}
 use Rattle.rules.specs.Limits.{nodes}
 use Rattle.rules.specs.TailByte.{parsedTail}
 use Rattle.rules.specs.Plan.{frames}

@@ -1,7 +1,7 @@
 -- Histories: frames that come one after the other, and what one source hears of them. The caller lends the same store at each call and writes nothing in it
 -- between; an answer's bytes are read at once, from the frame and from the store as the call left it.
 use Prim.Native.Nat.{ℕ, _%_}
-use mathlib.Core.Bool.{Bool, true, false, cond}
+use mathlib.Core.Bool.{Bool, false, cond}
 use mathlib.Core.List.{List, [], _∷_}
 use lib.Dec.{eqb}
 use Rattle.rules.specs.declared.header.Source.{Source}

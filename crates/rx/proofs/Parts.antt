@@ -10,7 +10,7 @@ use lib.Seq.{take-all, take-nil, drop-drop}
 use borrow.Rule.Slice.PartMut.{putMid, post-is}
 use mir.Val.{Fits}
 use mir.Syntax.{w8, w16}
-use Rattle.blocks.specs.Laid.{laid}
+use Rattle.laws.specs.Laid.{laid}
 use Rattle.laws.proofs.Choose.{either-way}
 use Rattle.rules.specs.Answers.{leading}
 use Rattle.rules.specs.Session.{stored}

@@ -3,13 +3,12 @@
 use mathlib.Core.Path.{_≡_, refl, sym, ap, _∙_, subst}
 use mathlib.Core.Logic.{_≢_}
 use mathlib.Core.Bool.{_&&_}
-use mathlib.Core.List.{List, [], _∷_, _++_, map, append-assoc}
-use Prim.Native.Nat.{ℕ, zero, suc, _+_, _*_, _%_, _^_, _<_}
+use mathlib.Core.List.{List, [], _∷_, map}
+use Prim.Native.Nat.{ℕ, zero, suc, _%_, _^_, _<_}
 use native.Mathlib.Omega.{arith}
-use lib.Dec.{lit<, leb, eqb}
-use lib.Bits.{bitXor, xor-lt}
-use lib.ListN.{length, take, drop, getD, set, replicate, length-set, take-append-drop}
-use lib.Seq.{getD-set-other, set-getD, drop-drop}
+use lib.Dec.{lit<, eqb}
+use lib.ListN.{length, getD, set, replicate, length-set}
+use lib.Seq.{getD-set-other, set-getD}
 use Rattle.laws.proofs.Choose.{either-way}
 use Rattle.rules.specs.declared.subscription.Settings.{Settings}
 use Rattle.rules.specs.declared.subscription.Subscribing.{Subscribing}
@@ -24,14 +23,16 @@ use Rattle.rules.specs.declared.slots.Slot.{Slot}
 use Rattle.rules.specs.declared.slots.Admitted.{Admitted}
 use Rattle.rules.specs.declared.slots.Admitted.the-variants.{Repeat, On}
 use Rattle.rules.specs.Limits.{transferIds, nodes, incremented}
-use Rattle.rules.specs.Crc.{polynomial, crcStart, crcBit, crcBits, crcByte, crcFrom}
+use Rattle.rules.specs.Crc.{crcStart}
 use Rattle.rules.specs.Frames.{Frame}
 use Rattle.rules.specs.Slot.{freshSlot, timedOut, admitted}
 use Rattle.rules.specs.Session.{sessionFor, awaits, joined, stored, complete}
 use Rattle.rules.specs.Answers.{Answer, answerOf}
 use Rattle.rules.specs.Source.{Turn, continued, ended, inSession, toSession, goesOn, byIdRule, turn}
-use Rattle.rules.specs.Receiver.{beforeTail, Receiver, Outcome, partOf, withPart, cellAt, atSource, freshSlots, received}
+use Rattle.rules.specs.Receiver.{beforeTail, Receiver, Outcome, partOf, cellAt, atSource, freshSlots, received}
+use Rattle.rules.proofs.Crc.{from-lt}
 use Rattle.rules.proofs.Answers.{one-answer}
+use Rattle.rules.proofs.Store.{put-own}
 use Rattle.rules.proofs.Receiver.{source-known, id-below, judged-either, judged-map}
 use Rattle.rx.specs.declared.subscription.Subscribed.{Subscribed}
 use Rattle.rx.specs.declared.subscription.Subscribed.the-variants.{Made as MadeSubscription, Refused}
@@ -40,17 +41,6 @@ use Rattle.rx.specs.Accept.{settingsMade, wordsMade, Closing, closes, ru
 use Rattle.rx.proofs.Words.{OpenFits, SlotFits, words-read, slot-fits, fresh-words}
 
 -- ---- what a frame leaves fits
-
-byte-fits : (c b : ℕ) → crcByte c b < 2 ^ 16
-unfolding crcByte crcBits crcBit
-byte-fits c b =
-    let x : ℕ = crcBits 7 (bitXor c (b * 2 ^ 8)) in
-    either-way (λ (n : ℕ). n < 2 ^ 16) (leb (2 ^ 15) x) (xor-lt 16 (x * 2 % 2 ^ 16) polynomial (omega arith) (lit< tt)) (omega arith)
-
--- the CRC stays within 16 bits, whatever the bytes
-pub crc-fits : (bytes : List ℕ) (c : ℕ) → c < 2 ^ 16 → crcFrom c bytes < 2 ^ 16
-crc-fits [] c h = h
-crc-fits (b ∷ bytes) c h = crc-fits bytes (crcByte c b) (byte-fits c b)
 
 -- the slot that a turn leaves fits
 abbrev Leaves : Turn → Type 0
@@ -69,7 +59,7 @@ module _ (slot : Slot) (a : Arrival) (h : slot .expected .0 < 256) where
   to-session-fits part bytes Closed k l = (h, l)
   to-session-fits part bytes (With s) k l =
       either-way Leaves (awaits s a)
-      (continued-fits (stored (s .total) bytes part) (joined (length part) s bytes) (crc-fits bytes (s .crc) k)) (h, k)
+      (continued-fits (stored (s .total) bytes part) (joined (length part) s bytes) (from-lt bytes (s .crc) k)) (h, k)
 
 session-for-fits : (a : Arrival) (o : Open) → OpenFits o → OpenFits (sessionFor o a)
 session-for-fits a Closed k = let c : crcStart < 2 ^ 16 = lit< tt in either-way OpenFits (a .tail .start) c tt
@@ -113,14 +103,6 @@ module _ {A B : Type 0} (g : A → B) where
   replicate-map : (n : ℕ) (x : A) → map g (replicate n x) ≡ replicate n (g x)
   replicate-map zero x = refl
   replicate-map (suc n) x = ap (λ (r : List B). g x ∷ r) (replicate-map n x)
-
--- the part that lies there, put in its place, is no change
-pub put-own : (e n : ℕ) (store : List ℕ) → withPart e n store (partOf e n store) ≡ store
-put-own e n store =
-    let rest : List ℕ = drop (n * e) store in
-    append-assoc (take (n * e) store) (take e rest) (drop (n * e + e) store)
-    ∙ ap (λ (l : List ℕ). take (n * e) store ++ (take e rest ++ l)) (sym (drop-drop e (n * e) store))
-    ∙ ap (λ (l : List ℕ). take (n * e) store ++ l) (take-append-drop e rest) ∙ take-append-drop (n * e) store
 
 module _ (words : List (List ℕ)) (store : List ℕ) where
   -- the slot of source n is the one that its words are read as

@@ -3,15 +3,12 @@
 use Prim.Native.Nat.{ℕ, _*_, _<_}
 use mathlib.Core.List.{List, [], map}
 use lib.ListN.{length, getD, set, replicate}
-use Rattle.rules.specs.declared.refusal.Refusal.{Refusal}
 use Rattle.rules.specs.declared.subscription.Settings.{Settings}
 use Rattle.rules.specs.declared.subscription.Subscribing.{Subscribing}
 use Rattle.rules.specs.declared.subscription.Subscribing.the-variants.{Made as MadeSettings, Refused as NotMade}
 use Rattle.rules.specs.declared.receive.Arrival.{Arrival}
-use Rattle.rules.specs.declared.receive.Received.{Received}
 use Rattle.rules.specs.declared.header.Source.{Source}
 use Rattle.rules.specs.declared.header.Source.the-variants.{Node, Anonymous}
-use Rattle.rules.specs.declared.slots.Slot.{Slot}
 use Rattle.rules.specs.declared.slots.Admitted.{Admitted}
 use Rattle.rules.specs.declared.slots.Admitted.the-variants.{Repeat, On}
 use Rattle.rules.specs.Limits.{nodes}

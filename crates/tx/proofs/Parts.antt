@@ -7,7 +7,7 @@ use native.Mathlib.Numerals.{add-one}
 use native.Mathlib.Omega.{arith}
 use lib.ListN.{length, set, take, drop, replicate, length-append, length-replicate, length-drop, replicate-append-replicate}
 use lib.Seq.{take-suc-set, take-at, set-at, append-snoc, take-all}
-use Rattle.blocks.specs.Laid.{laid}
+use Rattle.laws.specs.Laid.{laid}
 use Rattle.rules.specs.Crc.{crcFrom, crcBytes}
 use Rattle.rules.specs.Transfer.{padded, withCrc, tailed}
 

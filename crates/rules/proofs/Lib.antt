@@ -25,3 +25,4 @@ pub mod Stay
 pub mod Stutter
 pub mod Beyond
 pub mod Bench
+pub mod Worked

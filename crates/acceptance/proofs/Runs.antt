@@ -1,15 +1,15 @@
 -- A run of `accept` calls over lent words is a run of the book's receiver, call by call: the tie of one call, lifted over the list.
-use mathlib.Core.Path.{_≡_, refl, ap, _∙_}
+use mathlib.Core.Path.{_≡_, refl, ap, ap₂, _∙_}
 use mathlib.Core.Bool.{Bool, cond}
 use mathlib.Core.List.{List, [], _∷_}
 use Prim.Native.Nat.{ℕ}
 use Rattle.rules.specs.declared.subscription.Settings.{Settings}
 use Rattle.rules.specs.Frames.{Frame}
 use Rattle.rules.specs.Receiver.{Receiver, Outcome, cellAt, received}
-use Rattle.rules.specs.Histories.{Told, tells, run, heardBy}
+use Rattle.rules.specs.Histories.{Told, tells, heardOf, run, heardBy}
 use Rattle.rx.specs.Accept.{viewed}
 use Rattle.rx.proofs.Tied.{tied, slot-viewed}
-use Rattle.acceptance.specs.Runs.{Lent, called, leftBy, ran, answered, heardIn, slotIn}
+use Rattle.acceptance.specs.Runs.{Lent, called, leftBy, answered, calls, ran, slotIn}
 
 -- the book's receiver that the lent memory stands for
 abbrev pub bookOf : Lent → Receiver
@@ -29,13 +29,11 @@ module _ (s : Settings) where
   ran-tied (f ∷ fs) m = ran-tied fs (leftBy (called s m f)) ∙ ap (λ (w : Receiver). run s w fs) (call-tied m f)
 
   -- what is heard in it
-  pub heard-tied : (test : Frame → Bool) (fs : List Frame) (m : Lent) → heardIn test s m fs ≡ heardBy test s (bookOf m) fs
+  pub heard-tied : (test : Frame → Bool) (fs : List Frame) (m : Lent) → heardOf (calls s) test m fs ≡ heardBy test s (bookOf m) fs
   heard-tied test [] m = refl
   heard-tied test (f ∷ fs) m =
-      let h : heardIn test s (leftBy (called s m f)) fs ≡ heardBy test s (received s (bookOf m) f .receiver) fs =
-      heard-tied test fs (leftBy (called s m f)) ∙ ap (λ (w : Receiver). heardBy test s w fs) (call-tied m f) in
-      ap (λ (l : List Told). cond (test f) (answered f (called s m f) ∷ l) l) h
-      ∙ ap (λ (t : Told). cond (test f) (t ∷ heardBy test s (received s (bookOf m) f .receiver) fs) (heardBy test s (received s (bookOf m) f .receiver) fs)) (told-tied m f)
+      ap₂ (λ (t : Told) (l : List Told). cond (test f) (t ∷ l) l) (told-tied m f)
+      (heard-tied test fs (leftBy (called s m f)) ∙ ap (λ (w : Receiver). heardBy test s w fs) (call-tied m f))
 
   -- the slot of a source
   pub slot-tied : (m : Lent) (n : ℕ) → cellAt (s .extent) (bookOf m) n .slot ≡ slotIn m n

@@ -27,7 +27,7 @@ use Rattle.rules.proofs.Crc.{residue}
 use Rattle.rules.proofs.Plan.{alone, several}
 use Rattle.laws.specs.Laid.{laid}
 use Rattle.rules.proofs.Session.{length-laid}
-use Rattle.rules.proofs.Steps.{arrival, delivered, underWay, Free, first-opens, single-delivers, middle-joins, last-delivers}
+use Rattle.rules.proofs.Steps.{arrival, delivered, underWay, Free, meets-none, first-opens, single-delivers, middle-joins, last-delivers}
 use Rattle.rules.proofs.OwnCourse.{toldAt, Course, after, course}
 use Rattle.rules.proofs.Sent.{frameSent, Fits, sent-turn, frames-fit, framed-alone, framed-several}
 
@@ -173,7 +173,7 @@ module _ (s : Settings) (n : ℕ) (t : Sent) (to : SentTo (s .port) n t) (begin 
           let fits = subst Fits (framed-several t h) (frames-fit t) in
           let some : frames (t .mtu) p - 1 ≡ suc k = omega (arith, several p (t .mtu) h) in
           ap told (framed-several t h)
-          ∙ first-begins c (t .at 0) (take m all) (clear .new) (clear .free h) (fits 0)
+          ∙ first-begins c (t .at 0) (take m all) (clear .new) (meets-none (c .slot) (t .transferId) (clear .free h)) (fits 0)
           (arriving (t .canId) (t .loopback) (λ j. t .at (suc j)) (cut m (t .transferId) false false k (drop m all)))
           ∙ ap (hearing silence)
           (rest-delivers (c .slot .«last_time») (t .at 0) (c .part) m xs false k (take m all) (drop m all) (λ j. t .at (suc j)) (take-append-drop m all) (λ j. fits (suc j)))

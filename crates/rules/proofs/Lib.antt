@@ -16,11 +16,13 @@ pub mod Source
 pub mod Receiver
 pub mod IdRule
 pub mod Steps
+pub mod Histories
 pub mod OwnCourse
 pub mod Sent
 pub mod Deliver
 pub mod Repeat
 pub mod Demand3
+pub mod Exceptions
 pub mod Stay
 pub mod Stutter
 pub mod Beyond

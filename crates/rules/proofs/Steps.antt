@@ -14,6 +14,7 @@ use Rattle.rules.specs.declared.receive.Arrival.{Arrival}
 use Rattle.rules.specs.declared.receive.Part.the-variants.{OfFrame, OfStore}
 use Rattle.rules.specs.declared.slots.LastTime.{LastTime}
 use Rattle.rules.specs.declared.slots.LastTime.the-variants.{At}
+use Rattle.rules.specs.declared.slots.Open.{Open}
 use Rattle.rules.specs.declared.slots.Open.the-variants.{Closed, With}
 use Rattle.rules.specs.declared.slots.Session.{Session as TheSession}
 use Rattle.rules.specs.declared.slots.Slot.{Slot}
@@ -25,7 +26,7 @@ use Rattle.rules.specs.Slot.{restarted, admitted}
 use Rattle.rules.specs.Session.{awaits}
 use Rattle.rules.specs.Answers.{Answer, nothing, refusedBy}
 use Rattle.rules.specs.Source.{Cell, leaves, deliveredAt, ended, continued, inSession, goesOn, byIdRule, turn}
-use Rattle.rules.specs.Demand3.{IsRepeat}
+use Rattle.rules.specs.Demand3.{IsRepeat, MeetsSession}
 use Rattle.rules.proofs.Session.{sessionOf, length-laid, joined-first, stored-first, joined-came, stored-came}
 use Rattle.rules.proofs.IdRule.{id-rule, repeat-admitted}
 
@@ -53,6 +54,14 @@ underWay id last stamp loopback toggle came part = record {
 abbrev pub Free : ℕ → Slot → Type 0
 Free id slot = id ≡ slot .expected .0 → slot .session ≡ Closed
 
+-- so it is where the frame meets no open session
+pub meets-none : (slot : Slot) (id : ℕ) → ((s : TheSession) → MeetsSession slot id s → ⊥) → Free id slot
+meets-none slot id none q = go (slot .session) refl
+  where
+    go : (o : Open) → slot .session ≡ o → o ≡ Closed
+    go Closed e = refl
+    go (With s) e = absurd (none s (record { expected = omega (arith, q); running = e }))
+
 beq-self : (b : Bool) → Bool·beq b b ≡ true
 beq-self true = refl
 beq-self false = refl
@@ -61,7 +70,7 @@ beq-not : (b : Bool) → Bool·beq (not b) b ≡ false
 beq-not true = refl
 beq-not false = refl
 
-and-false : (b : Bool) → (b && false) ≡ false
+pub and-false : (b : Bool) → (b && false) ≡ false
 and-false true = refl
 and-false false = refl
 
@@ -72,7 +81,7 @@ module _ (timeout : ℕ) (c : Cell) (a : Arrival) (bytes : List ℕ) where
   repeat-passes r = ap (λ (x : Admitted). byIdRule x c a bytes) (repeat-admitted timeout (c .slot) (a .tail .«transfer_id» .0) (a .stamp) r)
 
 -- a free slot that is no repeat's goes on without a session, and expects the frame's ID
-free-admitted : (timeout : ℕ) (slot : Slot) (id stamp : ℕ) → (IsRepeat timeout slot id stamp → ⊥) → Free id slot
+pub free-admitted : (timeout : ℕ) (slot : Slot) (id stamp : ℕ) → (IsRepeat timeout slot id stamp → ⊥) → Free id slot
     → admitted timeout slot (record { 0 = id }) stamp ≡ On (restarted slot (record { 0 = id }))
 free-admitted timeout slot id stamp new free =
     id-rule timeout slot id stamp (λ x. x ≡ On (restarted slot (record { 0 = id }))) (λ r. absurd (new r)) (λ _ q. rw (q, free q) refl) (λ _ q. refl)

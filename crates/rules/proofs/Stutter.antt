@@ -22,7 +22,7 @@ use Rattle.rules.specs.Source.{Cell, turn}
 use Rattle.rules.specs.Demand3.{Sent, SentTo, IsRepeat, NoException, Plain, silence, owed}
 use Rattle.rules.specs.Beyond.{Young, stuttering}
 use Rattle.rules.proofs.Plan.{alone, several}
-use Rattle.rules.proofs.Steps.{arrival, delivered, repeat-passes, second-start, other-toggle}
+use Rattle.rules.proofs.Steps.{arrival, delivered, meets-none, repeat-passes, second-start, other-toggle}
 use Rattle.rules.proofs.OwnCourse.{course}
 use Rattle.rules.proofs.Sent.{frameSent, Fits, frames-fit, framed-alone, framed-several}
 use Rattle.rules.proofs.Deliver.{comes, gist, hearing, sent-next, handed, sofar, one-ends, first-begins, next-joins, last-ends}
@@ -121,7 +121,8 @@ module _ (s : Settings) (n : ℕ) (t : Sent) (to : SentTo (s .port) n t) (begin 
           second-start (s .timeout) (t .header) (copied 0) (t .transferId) (c .slot .«last_time») (t .at 0) (t .loopback) false (take m all) (c .part)
           (t .loopback) true (take m all) in
           ap told (framed-several t h)
-          ∙ first-begins s n t to begin c (t .at 0) (take m all) (clear .new) (clear .free h) (fits 0) (frameSent t (copied 0) (take m all) true false true ∷ rest)
+          ∙ first-begins s n t to begin c (t .at 0) (take m all) (clear .new) (meets-none (c .slot) (t .transferId) (clear .free h)) (fits 0)
+          (frameSent t (copied 0) (take m all) true false true ∷ rest)
           ∙ ap (hearing silence)
           (copy-passes (c .slot .«last_time») (t .at 0) (c .part) false (take m all) (take m all) (copied 0) true true (fits 0) same rest
           ∙ ap (hearing silence)

@@ -14,7 +14,8 @@ use Rattle.rules.specs.declared.header.ParsedCanId.the-variants.{Parsed}
 use Rattle.rules.specs.declared.subscription.Port.{Port}
 use Rattle.rules.specs.declared.subscription.Settings.{Settings}
 use Rattle.rules.specs.declared.slots.LastTime.the-variants.{At}
-use Rattle.rules.specs.declared.slots.Open.the-variants.{Closed}
+use Rattle.rules.specs.declared.slots.Session.{Session}
+use Rattle.rules.specs.declared.slots.Open.the-variants.{With}
 use Rattle.rules.specs.declared.slots.Slot.{Slot}
 use Rattle.rules.specs.Limits.{transferIds, roomOf}
 use Rattle.rules.specs.CanId.{parsedCanId}
@@ -23,7 +24,7 @@ use Rattle.rules.specs.Transfer.{content, framesOf}
 use Rattle.rules.specs.Frames.{Frame}
 use Rattle.rules.specs.Answers.{Answer, delivers, nothing, notOurs, refuses}
 use Rattle.rules.specs.Receiver.{Receiver, wants, sourceIn, cellAt}
-use Rattle.rules.specs.Histories.{Told, run, isFrom, hasLow, kept, heardBy, only}
+use Rattle.rules.specs.Histories.{Told, hearsAfter, replies, run, isFrom, hasLow, kept, only}
 
 -- ---- what is sent
 
@@ -67,10 +68,15 @@ pub record IsRepeat (timeout : ℕ) (slot : Slot) (id stamp : ℕ) : Type 0 wher
   pub counts : (stamp + 2 ^ 32 - last) % 2 ^ 32 < 2 ^ 31
   pub young : (stamp + 2 ^ 32 - last) % 2 ^ 32 ≤ timeout
 
--- what the first frame of a transfer must not meet in its source's slot: it is a repeat; or it needs a session and one is open that expects its ID
+-- a frame meets the session s: s is open, and it is the frame's ID that is expected
+pub record MeetsSession (slot : Slot) (id : ℕ) (s : Session) : Type 0 where
+  pub expected : id ≡ slot .expected .0
+  pub running : slot .session ≡ With s
+
+-- neither holds at the first frame of a transfer: it is no repeat; and if it needs a session, for there are several frames, it meets none that is open
 pub record NoException (timeout : ℕ) (t : Sent) (slot : Slot) : Type 0 where
   pub new : IsRepeat timeout slot (t .transferId) (t .at 0) → ⊥
-  pub free : roomOf (t .mtu) < length (t .payload) → t .transferId ≡ slot .expected .0 → slot .session ≡ Closed
+  pub free : roomOf (t .mtu) < length (t .payload) → (s : Session) → MeetsSession slot (t .transferId) s → ⊥
 
 -- ---- what is heard
 
@@ -132,9 +138,12 @@ pub record Demand3 (s : Settings) (n : ℕ) (hears : (Frame → Bool) → List F
   pub separateLow : (history fs gs : List Frame) → kept (hasLow n) fs ≡ kept (hasLow n) gs
       → hears (hasLow n) history fs ≡ hears (hasLow n) history gs
 
--- the book's own receiver w: what is told after a history, and the slot of source n
+-- the book's own receiver w: what is told after a history, the slot of source n then, and the store
 abbrev pub inBook : Settings → Receiver → (Frame → Bool) → List Frame → List Frame → List Told
-inBook s w test history fs = heardBy test s (run s w history) fs
+inBook s w test history fs = hearsAfter (replies s) w test history fs
 
 abbrev pub slotInBook : Settings → Receiver → ℕ → List Frame → Slot
 slotInBook s w n history = cellAt (s .extent) (run s w history) n .slot
+
+abbrev pub storeInBook : Settings → Receiver → List Frame → List ℕ
+storeInBook s w history = run s w history .store

@@ -11,7 +11,7 @@ use Rattle.rules.specs.Demand3.{Demand3, inBook, slotInBook, storeInBook}
 use Rattle.rules.specs.Beyond.{Settles, Stays, Confession}
 use Rattle.rules.proofs.Demand3.{demand3}
 use Rattle.rules.proofs.Beyond.{settles, stays, confession}
-use Rattle.rx.specs.Words.{slotOf}
+use Rattle.slots.specs.Words.{slotOf}
 use Rattle.acceptance.specs.Runs.{Lent, ran, inCode, slotInCode, storeInCode}
 use Rattle.acceptance.proofs.Runs.{bookOf, ran-tied, heard-tied, slot-tied}
 

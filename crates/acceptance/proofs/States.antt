@@ -41,7 +41,7 @@ use Rattle.tracker.specs.Row.{wordBase, numbers}
 use Rattle.tx.specs.declared.CanTransmitter.{CanTransmitter}
 use Rattle.tx.specs.declared.Sent.{Sent}
 use Rattle.tx.specs.Send.{verdict, freeAfter, Sends}
-use Rattle.rx.specs.Words.{wordsOf}
+use Rattle.slots.specs.Words.{wordsOf}
 use Rattle.rx.specs.Accept.{wordsMade}
 use Rattle.rx.proofs.Tied.{slot-viewed, words-length, made-fresh}
 use Rattle.acceptance.specs.Runs.{Lent, called, leftBy, slotIn}

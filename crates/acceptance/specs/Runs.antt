@@ -8,7 +8,7 @@ use Rattle.rules.specs.declared.slots.Slot.{Slot}
 use Rattle.rules.specs.Frames.{Frame}
 use Rattle.rules.specs.Answers.{shown}
 use Rattle.rules.specs.Histories.{Told, Reply, runOf, hearsAfter}
-use Rattle.rx.specs.Words.{slotOf}
+use Rattle.slots.specs.Words.{slotOf}
 use Rattle.rx.specs.Accept.{Closing, accepted}
 
 -- what the caller lends

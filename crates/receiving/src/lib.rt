@@ -14,11 +14,10 @@ use rules::subscription::Settings;
 use rules::types::CanNodeId;
 use rules::types::ServiceId;
 use rules::types::SubjectId;
-use rx::subscription::Slots;
 use rx::subscription::Subscribed;
 use rx::subscription::Subscription;
+use slots::Slots;
 ghost use mathlib.Core.Path.{_≡_};
-ghost use Rattle.rules.specs.CanId.{bit};
 ghost use Rattle.rules.specs.Frames.{frame};
 ghost use Rattle.rules.specs.Receiver.{made};
 ghost use Rattle.rules.specs.declared.header.Header.the-variants.{Message as MessageSaid};
@@ -137,12 +136,6 @@ fn lying_in(part: Part) -> Lying
     }
 }
 
-fn one_if(b: bool) -> usize
-    ensures { λ r. ⌜ r ≡ bit b ⌝ }
-{
-    if b { 1 } else { 0 }
-}
-
 fn delivery_numbers(delivery: Delivery) -> [usize; 11]
     ensures { λ r. ⌜ r ≡ deliveryNumbers delivery ⌝ }
 {
@@ -162,7 +155,7 @@ fn delivery_numbers(delivery: Delivery) -> [usize; 11]
         f.destination,
         transfer_id.0 as usize,
         delivery.stamp as usize,
-        one_if(delivery.loopback),
+        delivery.loopback as usize,
     ]
 }
 

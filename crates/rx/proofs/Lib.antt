@@ -2,5 +2,4 @@ pub mod Ages
 pub mod Judging
 pub mod Parts
 pub mod Saved
-pub mod Words
 pub mod Tied

@@ -1,20 +1,19 @@
 -- Parts of slices: what is shown of them, and how one that was lent comes back.
 use mathlib.Core.Path.{_≡_, refl}
-use mathlib.Core.List.{List, [], append-nil, append-assoc}
+use mathlib.Core.List.{List, [], append-assoc}
 use Prim.Native.Nat.{ℕ, _+_, _-_, _*_, _^_, _<_, _≤_}
 use native.Mathlib.Nat.{mul-le-mul-left}
 use native.Mathlib.Omega.{arith}
 use lib.Dec.{leb}
-use lib.ListN.{length, take, drop, length-drop, drop-of-length-le}
-use lib.Seq.{take-all, take-nil, drop-drop}
+use lib.ListN.{length, take, drop, length-take}
+use lib.Seq.{take-nil}
 use borrow.Rule.Slice.PartMut.{putMid, post-is}
 use mir.Val.{Fits}
 use mir.Syntax.{w8, w16}
-use Rattle.laws.specs.Laid.{laid}
 use Rattle.laws.proofs.Choose.{either-way}
 use Rattle.rules.specs.Answers.{leading}
-use Rattle.rules.specs.Session.{stored}
 use Rattle.rules.specs.Receiver.{partOf, withPart}
+use Rattle.session.specs.Turns.{greatestPart}
 
 -- of no bytes none are shown
 pub leading-none : (len : ℕ) → leading len [] ≡ []
@@ -27,25 +26,9 @@ product-below {a} {b} ha hb =
     let p : a * b ≤ a * 65535 = mul-le-mul-left a h in
     omega arith
 
--- a full part takes nothing
-pub stored-full : (total : ℕ) (bytes part : List ℕ) → length part ≤ total → stored total bytes part ≡ part
-unfolding stored
-stored-full total bytes part h =
-    let z : length part - total ≡ 0 = omega arith in
-    let d : length part ≤ total + length bytes = omega arith in
-    rw (take-all total part h, z, drop-of-length-le part d) (simp append-nil)
-
--- the rest of a list from a on, lent to a copy of bs, is back as that copy
-pub lent-rest : (xs bs : List ℕ) (a : ℕ) {ys : List ℕ} → a ≤ length xs → ys ≡ laid bs (take (length xs - a) (drop a xs))
-    → putMid a (length xs - a) xs ys ≡ stored a bs xs
-unfolding stored
-lent-rest xs bs a {ys} h e =
-    let l : length (drop a xs) ≡ length xs - a = length-drop a xs in
-    let m : length (drop a xs) ≤ length xs - a = omega (arith, l) in
-    let t : take (length xs - a) (drop a xs) ≡ drop a xs = take-all (length xs - a) (drop a xs) m in
-    let n : length xs ≤ length xs = omega arith in
-    let z : drop (length xs) xs ≡ [] = drop-of-length-le xs n in
-    rw (e, t, l, post-is a (length xs) xs h, z, drop-drop (length bs) a xs) (simp (append-nil, append-assoc))
+-- a source's part has no more bytes than an extent can name
+pub part-short : (e n : ℕ) (store : List ℕ) → e < 2 ^ 16 → length (partOf e n store) ≤ greatestPart
+part-short e n store h = omega (arith, length-take e (drop (n * e) store))
 
 -- a source's part, lent out ..
 pub lent-out : (e n : ℕ) (store : List ℕ) (start : ℕ) → start ≡ n * e → take (start + e - start) (drop start store) ≡ partOf e n store

@@ -6,9 +6,10 @@ use lib.ListN.{set}
 use borrow.Rule.Slice.PartMut.{putMid}
 use Rattle.rules.specs.declared.receive.Received.{Received}
 use Rattle.rules.specs.Answers.{answerOf, answerFrom}
-use Rattle.rx.specs.declared.session.Step.{Step}
-use Rattle.rx.specs.Words.{wordsOf}
-use Rattle.rx.specs.Accept.{closes, saved, turnOf}
+use Rattle.session.specs.declared.Step.{Step}
+use Rattle.slots.specs.Words.{wordsOf}
+use Rattle.session.specs.Turns.{turnOf}
+use Rattle.rx.specs.Accept.{closes, saved}
 use Rattle.rx.proofs.Parts.{lent-back}
 
 -- the slot written back, the part back in its place, and the answer's bytes counted from the start of the store: the turn is saved

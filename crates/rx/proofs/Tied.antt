@@ -36,9 +36,9 @@ use Rattle.rules.proofs.Store.{put-own}
 use Rattle.rules.proofs.Receiver.{source-known, id-below, judged-either, judged-map}
 use Rattle.rx.specs.declared.subscription.Subscribed.{Subscribed}
 use Rattle.rx.specs.declared.subscription.Subscribed.the-variants.{Made as MadeSubscription, Refused}
-use Rattle.rx.specs.Words.{wordsOf, slotOf}
+use Rattle.slots.specs.Words.{wordsOf, slotOf}
 use Rattle.rx.specs.Accept.{settingsMade, wordsMade, Closing, closes, ruled, inWords, accepted, viewed, viewedAfter}
-use Rattle.rx.proofs.Words.{OpenFits, SlotFits, words-read, slot-fits, fresh-words}
+use Rattle.slots.proofs.Words.{OpenFits, SlotFits, words-read, slot-fits, fresh-words}
 
 -- ---- what a frame leaves fits
 

@@ -14,14 +14,13 @@ use Rattle.rules.specs.declared.slots.Admitted.the-variants.{Repeat, On}
 use Rattle.rules.specs.Limits.{nodes}
 use Rattle.rules.specs.Frames.{Frame}
 use Rattle.rules.specs.Slot.{freshSlot, admitted}
-use Rattle.rules.specs.Answers.{Answer, nothing, answerOf, answerFrom}
-use Rattle.rules.specs.Source.{Turn, leaves, goesOn}
+use Rattle.rules.specs.Answers.{Answer, nothing, answerFrom}
+use Rattle.rules.specs.Source.{Turn, goesOn}
 use Rattle.rules.specs.Receiver.{Receiver, Outcome, partOf, withPart, judged}
-use Rattle.rx.specs.declared.session.Step.{Step}
 use Rattle.rx.specs.declared.subscription.Subscription.{Subscription}
 use Rattle.rx.specs.declared.subscription.Subscribed.{Subscribed}
 use Rattle.rx.specs.declared.subscription.Subscribed.the-variants.{Made, Refused}
-use Rattle.rx.specs.Words.{wordsOf, slotOf}
+use Rattle.slots.specs.Words.{wordsOf, slotOf}
 
 -- ---- making
 
@@ -35,18 +34,12 @@ abbrev pub wordsMade : Subscribing → List (List ℕ) → List (List ℕ)
 wordsMade (MadeSettings s) words = replicate nodes (wordsOf freshSlot)
 wordsMade (NotMade r) words = words
 
--- ---- one source
-
--- what the code answers and leaves of a slot, and the part that it leaves, as a turn
-abbrev pub turnOf : Step → List ℕ → Turn
-turnOf r part = leaves (answerOf (r .answer)) (r .slot) part
+-- ---- 128 sources
 
 -- a source that has a slot
 abbrev pub Known : Source → Type 0
 Known (Node n) = n .0 < nodes
 Known Anonymous = Unit {0}
-
--- ---- 128 of them
 
 -- the answer, the words and the store after a frame
 pub record Closing : Type 0 where

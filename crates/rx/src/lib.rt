@@ -1,14 +1,11 @@
-// Receiving, after the original's files: rx/subscription.rs, rx/session.rs and rx/buildup.rs in modules of their names, and in lib.rt the bytes that an answer
-// names. The caller lends 128 slots and the store with each call. No public function has a `requires`.
+// Receiving, after the original's files: rx/subscription.rs in the module of its name, rx/session.rs and rx/buildup.rs in crate `session`, and in lib.rt the bytes
+// that an answer names. The caller lends 128 slots and the store with each call. No public function has a `requires`.
 use rules::receive::Part;
 use rules::receive::Received;
 ghost use mathlib.Core.Path.{_≡_};
 ghost use lib.ListN.{drop};
 ghost use Rattle.rules.specs.Answers.{answerOf, leading, partShown, shown};
 
-mod buildup;
-mod session;
-mod slots;
 pub mod subscription;
 
 // The bytes that an answer names, where they lie: a part of the frame that was answered, or of the store as that call left it. An empty part where the answer

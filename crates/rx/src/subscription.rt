@@ -1,6 +1,4 @@
 // Subscriptions, after rx/subscription.rs: the transfer-ID filter and its timeout for each of 128 sources, whose slots and whose parts of the store the caller lends.
-use crate::session;
-use crate::slots;
 use rules::data::EXTENT_MAX;
 use rules::data::FRAME_CAPACITY;
 use rules::frame::Marks;
@@ -23,6 +21,7 @@ use rules::subscription::ServicePort;
 use rules::subscription::Settings;
 use rules::types::CanNodeId;
 use rules::types::CanTransferId;
+use slots::Slots;
 ghost use mathlib.Core.Path.{_≡_};
 ghost use Prim.Native.Nat.{_<_, _≤_, _*_, _^_};
 ghost use lib.ListN.{length};
@@ -32,9 +31,6 @@ ghost use Rattle.rules.specs.Slot.{timedOut, admitted};
 ghost use Rattle.rules.specs.Answers.{answerOf, answerFrom, partFrom};
 ghost use Rattle.rules.specs.Receiver.{made, portValid, serviceValid, sameService, wants, reading, beforeTail, sourceIn, bySource};
 ghost use Rattle.rx.specs.Accept.{settingsMade, wordsMade, Known, closes, inWords, accepted};
-
-// The memory of a subscription's 128 slots, four words each.
-pub type Slots = [[u32; 4]; 128];
 
 // The slots and the store are lent with each call, the same ones.
 pub struct Subscription {

@@ -10,9 +10,9 @@ use rules::subscription::Settings;
 use rules::types::CanNodeId;
 use rules::types::ServiceId;
 use rules::types::SubjectId;
-use rx::subscription::Slots;
 use rx::subscription::Subscribed;
 use rx::subscription::Subscription;
+use slots::Slots;
 
 // The answers that are no refusal, by numbers that no refusal has.
 const NOTHING: u64 = 0;

@@ -1,6 +1,7 @@
-use Rattle.rules.specs.CanId.{bit}
 use mathlib.Core.Path.{ap, _∙_}
 use Prim.Native.Nat.{ℕ}
+use Rattle.laws.proofs.Bits.{flag}
+use Rattle.rules.specs.CanId.{bit}
 use Rattle.receiving.specs.declared.Lying.{Lying}
 use Rattle.receiving.specs.declared.Fields.{Fields}
 use Rattle.receiving.specs.Flat.{lyingIn, fieldsIn, numbers}
@@ -20,19 +21,19 @@ cast-t7 c = search needs
 cast-t8 : tie.Need-cast-t8
 cast-t8 c = search needs
 
-one-if-requires : tie.Need-one-if-requires
-one-if-requires c κs = search needs
+cast-t9 : tie.Need-cast-t9
+cast-t9 c = search needs
 
 returns : tie.Need-returns
 returns c =
     let d = c .before .before .before .before .before .before .args .delivery in
     let f = c .before .before .before .before .fields-in in
     let p = c .before .before .before .lying-in in
-    ap (numbers (p .result) (f .result) (d .«transfer_id» .0) (d .stamp)) (c .one-if .ensures)
+    ap (numbers (p .result) (f .result) (d .«transfer_id» .0) (d .stamp)) (flag (d .loopback))
     ∙ ap (λ (g : Fields). numbers (p .result) g (d .«transfer_id» .0) (d .stamp) (bit (d .loopback))) (f .ensures)
     ∙ ap (λ (q : Lying). numbers q (fieldsIn (d .header)) (d .«transfer_id» .0) (d .stamp) (bit (d .loopback))) (p .ensures)
 
 pub delivery-numbers-spec : {M : Type 1} → statement M
 delivery-numbers-spec =
     tie.close
-    (tie.spec fields-in-requires lying-in-requires cast-t7 cast-t8 one-if-requires returns)
+    (tie.spec fields-in-requires lying-in-requires cast-t7 cast-t8 cast-t9 returns)

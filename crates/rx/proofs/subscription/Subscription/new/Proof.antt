@@ -1,7 +1,7 @@
 use mathlib.Core.Path.{sym, _∙_}
 use borrow.Author.Tests.{le-leb, lt-leb, not-true, not-false}
 use borrow.Author.Needs.{needs}
-use Rattle.rx.specs.Words.{wordsOf}
+use Rattle.slots.specs.Words.{wordsOf}
 use Rattle.rx.proofs.subscription.Subscription.new.Statement.{statement}
 use Rattle.rx.proofs.subscription.Subscription.new.Tie as tie
 

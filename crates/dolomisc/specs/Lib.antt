@@ -1,0 +1,4 @@
+pub mod Flat
+pub mod States
+pub mod Doors
+pub mod Received

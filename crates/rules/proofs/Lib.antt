@@ -28,3 +28,4 @@ pub mod Stutter
 pub mod Beyond
 pub mod Bench
 pub mod Worked
+pub mod Readings

@@ -16,7 +16,7 @@ use Rattle.rules.specs.declared.subscription.Port.the-variants.{Message,
 use Rattle.rules.specs.declared.subscription.Subscribing.the-variants.{Made, Refused}
 use Rattle.rules.specs.CanId.{parsedCanId, headerOf}
 use Rattle.rules.specs.Slot.{admitted}
-use Rattle.rules.specs.Session.{joined}
+use Rattle.rules.specs.Session.{joined, stored}
 use Rattle.rules.specs.Answers.{Answer, delivers, notOurs, refuses}
 use Rattle.rules.specs.Source.{ended, continued, inSession, goesOn, turn}
 use Rattle.rules.specs.Receiver.{made, freshSlots, reading, cellAt, atSource, judged, received}
@@ -43,7 +43,7 @@ order-of-refusals = (refl, refl, refl, refl, refl, refl, refl)
 
 -- a message is ours by its subject, neither a lower nor a higher one
 pub own-subject : (answer scans 256 0x1000_FF2A (0 ∷ []) ≡ notOurs) × (answer scans 256 0x1001_012A (0 ∷ []) ≡ notOurs)
-unfolding received judged reading parsedCanId
+unfolding received judged reading parsedCanId atSource cellAt turn goesOn admitted
 own-subject = (refl, refl)
 
 -- a service transfer is ours by its kind, its service and its destination: case 4's request goes to requests of service 430 at node 5 alone
@@ -78,5 +78,5 @@ short = record {
 pub short-refused : goesOn short (0 ∷ 0 ∷ [])
     (record { header = headerOf 0; tail = record { start = false; end = true; toggle = true; «transfer_id» = record { 0 = 0 } }; stamp = 0; loopback = false }) []
     .answer ≡ refuses 6
-unfolding goesOn inSession continued ended joined
+unfolding goesOn inSession continued ended joined stored
 short-refused = refl

@@ -49,7 +49,7 @@ abbrev row : ℕ → Shown → Shown → Row
 row n b s = record { case = n; book = b; sheet = s }
 
 -- the frames of a payload of p zeros with transfer ID 0, and the length of the last
-abbrev zeros : Mtu → ℕ → List (List ℕ)
+abbrev pub zeros : Mtu → ℕ → List (List ℕ)
 zeros u p = framesOf u 0 (replicate p 0)
 
 abbrev lastLength : Mtu → ℕ → ℕ
@@ -59,7 +59,7 @@ lastLength u p = length (getD (zeros u p) (frames u p - 1) [])
 abbrev message : Header
 message = Message (record { priority = record { 0 = 4 }; subject = record { 0 = 256 }; source = Node (record { 0 = 42 }) })
 
-abbrev service : ServiceHeader
+abbrev pub service : ServiceHeader
 service = record { priority = record { 0 = 1 }; service = record { 0 = 430 }; destination = record { 0 = 5 }; source = Node (record { 0 = 9 }) }
 
 abbrev id : ℕ → Shown
@@ -67,21 +67,21 @@ id n = canId (Made (record { 0 = n }))
 
 -- ---- what comes to fresh slots: a subscription to case 4's messages, with an extent of two bytes
 
-abbrev settings : ℕ → Settings
+abbrev pub settings : ℕ → Settings
 settings timeout = record { port = Messages (record { 0 = 256 }); timeout = timeout; extent = 2 }
 
-abbrev fresh : Receiver
+abbrev pub fresh : Receiver
 fresh = record { slots = freshSlots; store = replicate (nodes * 2) 0 }
 
 -- a frame from case 4's source, with this stamp and these bytes
-abbrev came : ℕ → List ℕ → Frame
+abbrev pub came : ℕ → List ℕ → Frame
 came stamp xs = record { stamp = stamp; id = 0x1061_002A; loopback = false; bytes = xs }
 
 -- a single frame and a middle frame, with this stamp and this transfer ID, that carry the byte 7
 abbrev single : ℕ → ℕ → Frame
 single stamp transfer = came stamp (7 ∷ tailByte true true true transfer ∷ [])
 
-abbrev middle : ℕ → ℕ → Frame
+abbrev pub middle : ℕ → ℕ → Frame
 middle stamp transfer = came stamp (7 ∷ tailByte false false true transfer ∷ [])
 
 abbrev seven : List ℕ
@@ -94,7 +94,7 @@ said tellsNotOurs xs = notOurs
 said (refuses n) xs = refusal n
 
 -- the answers to these frames, with this timeout
-abbrev answered : ℕ → List Frame → Shown
+abbrev pub answered : ℕ → List Frame → Shown
 answered timeout fs = answers (map (λ (t : Told). said (t .answer) (t .bytes)) (told (settings timeout) fresh fs))
 
 -- the transfer ID that the source's slot expects after them

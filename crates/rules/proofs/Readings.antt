@@ -6,7 +6,7 @@ use mathlib.Core.List.{List, [], _∷_, _++_, map}
 use Prim.Native.Nat.{ℕ, _-_, _^_}
 use lib.ListN.{getD, take, drop, replicate}
 use Rattle.rules.specs.declared.refusal.Refusal.the-variants.{Field, ReservedBit}
-use Rattle.rules.specs.declared.data.Mtu.the-variants.{CanFd64}
+use Rattle.rules.specs.declared.data.Mtu.the-variants.{Can8, CanFd64}
 use Rattle.rules.specs.declared.header.Source.the-variants.{Node}
 use Rattle.rules.specs.declared.header.Header.the-variants.{Message, Request}
 use Rattle.rules.specs.declared.header.ParsedCanId.the-variants.{Parsed, Refused as NotParsed}
@@ -25,7 +25,7 @@ use Rattle.rules.specs.Slot.{freshSlot, age, admitted}
 use Rattle.rules.specs.Session.{joined, stored}
 use Rattle.rules.specs.Answers.{Answer, delivers, notOurs, refuses, nothing as tellsNothing}
 use Rattle.rules.specs.Source.{ended, continued, inSession, goesOn, turn}
-use Rattle.rules.specs.Receiver.{reading, cellAt, atSource, judged, received}
+use Rattle.rules.specs.Receiver.{tailOf, reading, cellAt, atSource, judged, received}
 use Rattle.rules.specs.Histories.{Told, told, run}
 use Rattle.rules.specs.Bench.{Shown, answers, delivered, nothing, refusal, settings, fresh, came, middle, service, zeros, answered}
 
@@ -173,6 +173,11 @@ raised = refl
 pub length-48 : nextLength 33 ≡ 48
 unfolding nextLength
 length-48 = refl
+
+-- the tail bytes of case 2's 13 zeros at MTU 8: start and toggle 1, toggle 0, end and toggle 1
+pub tail-bytes : map tailOf (zeros Can8 13) ≡ 0xA0 ∷ 0x00 ∷ 0x60 ∷ []
+unfolding crcBit crcBits crcByte tailByte nextLength tails frames padding carried framesOf
+tail-bytes = refl
 
 -- the CRC of case 14 goes out high byte first
 pub high-byte-first : crcBytes 0x29B1 ≡ 0x29 ∷ 0xB1 ∷ []

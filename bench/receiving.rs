@@ -1,7 +1,8 @@
 //! Receiving against the original over its stand-ins, whose CRC goes by a table, in one run: the same frames of a transfer to both
 //! subscriptions, again and again under the next transfer ID. The deliveries are compared first. Each number is the median over
 //! rounds of the time of ours divided by the time of the original's, the two measured in turn within each round. The original
-//! takes a frame by value, so it gets a copy of one that is made before. Built and run by tools/measure.
+//! takes a frame by value, so it gets a copy of one that is made before. Given an MTU and a length, ours alone takes the frames of 32
+//! transfers once and their number is told, for a count of instructions. Built and run by tools/measure.
 #[allow(dead_code)]
 #[path = "../oracle/ours.rs"]
 mod ours;
@@ -101,6 +102,13 @@ fn median(mut ratios: Vec<f64>) -> f64 {
 fn main() {
     let extent = 1024;
     let all: Vec<u8> = (0..1024u32).map(|i| (i.wrapping_mul(2_654_435_761) >> 13) as u8).collect();
+    let asked: Vec<usize> = std::env::args().skip(1).map(|word| word.parse().expect("a number")).collect();
+    if let [mtu, length] = asked[..] {
+        let frames = frames(&all[..length], mtu);
+        assert_eq!(by_ours(&mut receivers(extent).0, &frames), 32 * length);
+        println!("{} frames", frames.bytes.len());
+        return;
+    }
     let cases = [(8, 7), (8, 64), (8, 1024), (64, 63), (64, 64), (64, 1024)];
     for (mtu, length) in cases {
         equal(&all[..length], extent, &frames(&all[..length], mtu));

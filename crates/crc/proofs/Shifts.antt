@@ -64,15 +64,15 @@ fold-moves x h = agree (chain folded (leave 8)) (chain (leave 8) (move 64)) 64 t
 -- ---- what the eight bytes of a number leave
 
 abbrev divided : Kept
-divided =
-    chain (with shr (32 ∷ [])) (chain (with shr (44 ∷ 16 ∷ [])) (chain (with shr (32 ∷ 22 ∷ 8 ∷ [])) (with shr (16 ∷ 11 ∷ 4 ∷ []))))
+divided = chain (with shr (44 ∷ 16 ∷ [])) (chain (with shr (32 ∷ 22 ∷ 8 ∷ [])) (with shr (16 ∷ 11 ∷ 4 ∷ [])))
 
 abbrev remaining : Kept
 remaining = chain divided (chain (with (shl 64) (12 ∷ 5 ∷ [])) (low 16))
 
-pub rest-leaves : (x : ℕ) → x < 2 ^ 64 → remaining .of x ≡ wide 8 x
+-- of a number that was added to its own upper half
+pub rest-leaves : (x top : ℕ) → x < 2 ^ 64 → top ≡ x / 2 ^ 32 → remaining .of (bitXor x top) ≡ wide 8 x
 unfolding wide crcByte crcBits crcBit
-rest-leaves = agree remaining (leave 8) 64 tt
+rest-leaves x top h e = ap (λ (n : ℕ). remaining .of (bitXor x n)) e ∙ agree (chain (with shr (32 ∷ [])) remaining) (leave 8) 64 tt x h
 
 -- ---- a register before the first bytes
 

@@ -2,7 +2,7 @@
 // the next eight by shifts and sums, and brought down to the register only once, at the end. No public function has a
 // `requires`.
 ghost use mathlib.Core.Path.{_≡_};
-ghost use Prim.Native.Nat.{_+_, _-_, _%_, _^_, _≤_, _<_};
+ghost use Prim.Native.Nat.{_+_, _-_, _/_, _%_, _^_, _≤_, _<_};
 ghost use lib.ListN.{length, getD, drop};
 ghost use Rattle.rules.specs.Crc.{crcBits, crcByte, crcFrom};
 ghost use Rattle.crc.specs.Wide.{value, wide};
@@ -25,18 +25,23 @@ fn byte_at(s: &[u8], i: usize, k: usize) -> u64
     wider(s[i + k])
 }
 
-// The seven bytes from i on as one number, the first highest.
-fn seven(s: &[u8], i: usize) -> u64
-    requires { ⌜ i + 7 ≤ length (now s) ⌝ }
-    ensures { λ r. ⌜ (r ≡ value (now (s .entry)) i 7) × (r < 2 ^ 56) ⌝ }
+// The three bytes from i on as one number, the first highest.
+fn three(s: &[u8], i: usize) -> u64
+    requires { ⌜ i + 3 ≤ length (now s) ⌝ }
+    ensures { λ r. ⌜ (r ≡ value (now (s .entry)) i 3) × (r < 2 ^ 24) ⌝ }
 {
     let a = byte_at(s, i, 0);
     let b = a * 256 + byte_at(s, i, 1);
-    let c = b * 256 + byte_at(s, i, 2);
-    let d = c * 256 + byte_at(s, i, 3);
-    let e = d * 256 + byte_at(s, i, 4);
-    let f = e * 256 + byte_at(s, i, 5);
-    f * 256 + byte_at(s, i, 6)
+    b * 256 + byte_at(s, i, 2)
+}
+
+// The four bytes from i on; the compiler makes one load of them.
+fn four(s: &[u8], i: usize) -> u64
+    requires { ⌜ i + 4 ≤ length (now s) ⌝ }
+    ensures { λ r. ⌜ (r ≡ value (now (s .entry)) i 4) × (r < 2 ^ 32) ⌝ }
+{
+    let high = three(s, i);
+    high * 256 + byte_at(s, i, 3)
 }
 
 // The eight bytes from i on; the compiler makes one load of them.
@@ -44,8 +49,9 @@ fn eight(s: &[u8], i: usize) -> u64
     requires { ⌜ i + 8 ≤ length (now s) ⌝ }
     ensures { λ r. ⌜ r ≡ value (now (s .entry)) i 8 ⌝ }
 {
-    let high = seven(s, i);
-    high * 256 + byte_at(s, i, 7)
+    let high = four(s, i);
+    let low = four(s, i + 4);
+    high * 0x1_0000_0000 + low
 }
 
 // The register after one byte, with no loop over its bits.
@@ -67,23 +73,36 @@ fn fold(x: u64) -> u64
     q ^ (q << 20) ^ (q << 48)
 }
 
-// What the eight bytes of x leave in the register: q is the quotient by the polynomial, and the last line its remainder.
-fn rest(x: u64) -> u16
+// What the eight bytes of x, whose upper half is top, leave in the register: q is the quotient by the polynomial, and the last line its remainder.
+fn rest(x: u64, top: u64) -> u16
+    requires { ⌜ top ≡ x / 2 ^ 32 ⌝ }
     ensures { λ r. ⌜ r ≡ wide 8 x ⌝ }
 {
-    let t = x ^ (x >> 32);
+    let t = x ^ top;
     let u = t ^ (t >> 16) ^ (t >> 44);
     let v = u ^ (u >> 8) ^ (u >> 22) ^ (u >> 32);
     let q = v ^ (v >> 4) ^ (v >> 11) ^ (v >> 16);
     ((q ^ (q << 5) ^ (q << 12)) % 65536) as u16
 }
 
-// The register crc and the first seven bytes behind it, as one number that leaves the same.
-fn first_seven(crc: u16, s: &[u8]) -> u64
+// A number and its upper half.
+struct Seven {
+    x: u64,
+    top: u64,
+}
+
+// The register crc and the first seven bytes behind it, as one number that leaves the same. Its upper half is told beside it, not shifted out of it: the
+// compiler then loads four bytes at once.
+fn first_seven(crc: u16, s: &[u8]) -> Seven
     requires { ⌜ 7 ≤ length (now s) ⌝ }
-    ensures { λ r. ⌜ crcFrom (wide 8 r) (drop 7 (now (s .entry))) ≡ crcFrom crc (now (s .entry)) ⌝ }
+    ensures { λ r. ⌜ (crcFrom (wide 8 (r .x)) (drop 7 (now (s .entry))) ≡ crcFrom crc (now (s .entry))) × (r .top ≡ r .x / 2 ^ 32) ⌝ }
 {
-    ((crc as u64) << 40) ^ seven(s, 0)
+    let high = ((crc as u64) << 16) ^ four(s, 0);
+    let low = three(s, 4);
+    Seven {
+        x: (high << 24) ^ low,
+        top: high >> 8,
+    }
 }
 
 // The register crc and the eight bytes from i on behind it, as one number that leaves the same.
@@ -113,19 +132,7 @@ fn folds(x: u64, s: &[u8], k: usize) -> u16
         w = next_eight(w, s, i);
         i += 8;
     }
-    rest(w)
-}
-
-// The register after the bytes from k on, whole eights of them.
-fn eights(crc: u16, s: &[u8], k: usize) -> u16
-    requires { ⌜ (k ≤ length (now s)) × ((length (now s) - k) % 8 ≡ 0) ⌝ }
-    ensures { λ r. ⌜ r ≡ crcFrom crc (drop k (now (s .entry))) ⌝ }
-{
-    if s.len() <= k {
-        return crc;
-    }
-    let x = first_eight(crc, s, k);
-    folds(x, s, k + 8)
+    rest(w, w >> 32)
 }
 
 // The register after the first k bytes, one at a time.
@@ -142,16 +149,46 @@ fn front(crc: u16, s: &[u8], k: usize) -> u16
     c
 }
 
-// The register after the bytes, from the register crc: the odd bytes first, then folds of eight. Seven odd bytes, as a
-// full frame has, go in at once.
+// A number that stands for the register after the first bytes, and how many these were.
+struct Begun {
+    x: u64,
+    taken: usize,
+}
+
+// The odd bytes go in first, and where they are not seven, the next eight.
+fn begin(crc: u16, s: &[u8]) -> Begun
+    requires { ⌜ 8 ≤ length (now s) ⌝ }
+    ensures { λ r. ⌜ crcFrom (wide 8 (r .x)) (drop (r .taken) (now (s .entry))) ≡ crcFrom crc (now (s .entry)) ⌝ }
+    ensures { λ r. ⌜ (r .taken ≤ length (now (s .entry))) × ((length (now (s .entry)) - r .taken) % 8 ≡ 0) ⌝ }
+{
+    let odd = s.len() % 8;
+    if odd == 7 {
+        let seven = first_seven(crc, s);
+        return Begun {
+            x: seven.x,
+            taken: 7,
+        };
+    }
+    let c = front(crc, s, odd);
+    Begun {
+        x: first_eight(c, s, odd),
+        taken: odd + 8,
+    }
+}
+
+// The register after the bytes, from the register crc: the odd bytes first, then folds of eight. Seven bytes, as a full frame of 8 has, need no fold. One call
+// to `folds`, so that the compiler puts it in line.
 pub fn digest_bytes(crc: u16, bytes: &[u8]) -> u16
     ensures { λ r. ⌜ r ≡ crcFrom crc (now (bytes .entry)) ⌝ }
 {
-    let odd = bytes.len() % 8;
-    if odd == 7 {
-        let x = first_seven(crc, bytes);
-        return folds(x, bytes, 7);
+    let len = bytes.len();
+    if len == 7 {
+        let seven = first_seven(crc, bytes);
+        return rest(seven.x, seven.top);
     }
-    let c = front(crc, bytes, odd);
-    eights(c, bytes, odd)
+    if len < 8 {
+        return front(crc, bytes, len);
+    }
+    let begun = begin(crc, bytes);
+    folds(begun.x, bytes, begun.taken)
 }

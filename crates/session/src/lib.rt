@@ -115,8 +115,9 @@ fn accept(slot: Slot, part: &mut [u8], arrival: Arrival, bytes: &[u8], session: 
     if !awaited(session, arrival) {
         return hold(slot, session);
     }
-    let joined = buildup::add(session, part.len(), bytes);
+    let extent = part.len();
     buildup::store(part, session.total as usize, bytes);
+    let joined = buildup::add(session, extent, bytes);
     go_on_or_end(slot, part, arrival, joined)
 }
 
@@ -188,15 +189,23 @@ fn hold(slot: Slot, session: Session) -> Step
     }
 }
 
+// The last time is taken apart and put together again: moved whole, it would go through one word of 64 bits.
 fn with_session(slot: Slot, session: Open) -> Slot
     ensures { λ r. ⌜ r ≡ withSession slot session ⌝ }
 {
     let expected = slot.expected;
     let last_time = slot.last_time;
-    Slot {
-        expected,
-        last_time,
-        session,
+    match last_time {
+        LastTime::Never => Slot {
+            expected,
+            last_time: LastTime::Never,
+            session,
+        },
+        LastTime::At(last) => Slot {
+            expected,
+            last_time: LastTime::At(last),
+            session,
+        },
     }
 }
 

@@ -8,7 +8,7 @@ cast-result : tie.Need-cast-result
 cast-result c = search needs
 
 returns : tie.Need-returns
-returns c = rest-leaves (c .args .x) (c .fits .x .fits)
+returns c = rest-leaves (c .args .x) (c .args .top) (c .fits .x .fits) (c .pre)
 
 pub rest-spec : {M : Type 1} → statement M
 rest-spec = tie.close (tie.spec cast-result returns)

@@ -17,14 +17,14 @@ returns : tie.Need-returns
 unfolding inSession
 returns c = ap (λ r. turnOf r (now (c .before .before .before .before .before .args .part))) (c .hold .ensures) ∙ sym (simp (sym (c .before .before .awaited .ensures) ∙ not-true _ (c .before .if1 .taken)))
 
-add-requires : tie.Need-add-requires
-add-requires c κs = search needs
-
 cast-store : tie.Need-cast-store
 cast-store c = search needs
 
 store-requires : tie.Need-store-requires
 store-requires c κs = search needs
+
+add-requires : tie.Need-add-requires
+add-requires c κs = search needs
 
 go-on-or-end-requires : tie.Need-go-on-or-end-requires
 go-on-or-end-requires c κs = search needs
@@ -37,9 +37,10 @@ unfolding inSession
 returns-2 c =
     let a = c .before .before .before .before .before .before .before .before .before .before .before .before .args in
     let w = sym (c .before .before .before .before .before .before .before .before .before .awaited .ensures) ∙ not-false _ (c .before .before .before .before .before .before .before .before .if1 .left) in
+    let j = c .before .before .add in
     c .go-on-or-end .ensures
-    ∙ ap (λ p. continued (a .slot) p (a .arrival) (c .before .before .before .before .before .before .before .add .result)) (c .before .before .before .before .store .ensures)
-    ∙ ap (continued (a .slot) _ (a .arrival)) (c .before .before .before .before .before .before .before .add .ensures)
+    ∙ ap (λ p. continued (a .slot) p (a .arrival) (j .result)) (c .before .before .before .before .before .store .ensures)
+    ∙ ap (continued (a .slot) _ (a .arrival)) (j .ensures)
     ∙ sym (simp w)
 
 pub accept-spec : {M : Type 1} → statement M
@@ -49,9 +50,9 @@ accept-spec =
     awaited-requires
     hold-requires
     returns
-    add-requires
     cast-store
     store-requires
+    add-requires
     go-on-or-end-requires
     same-length
     returns-2)

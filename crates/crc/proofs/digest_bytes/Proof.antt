@@ -1,0 +1,51 @@
+-- Seven bytes leave what their number leaves; fewer go in one by one; more are begun, and folded on.
+use mathlib.Core.Path.{_∙_}
+use lib.ListN.{length}
+use denote.Ref.{now}
+use Rattle.crc.specs.Wide.{wide}
+use Rattle.crc.proofs.Blocks.{none-left}
+use borrow.Author.Needs.{needs}
+use Rattle.crc.proofs.digest_bytes.Statement.{statement}
+use Rattle.crc.proofs.digest_bytes.Tie as tie
+
+first-seven-requires : tie.Need-first-seven-requires
+first-seven-requires c κs = search needs
+
+rest-requires : tie.Need-rest-requires
+rest-requires c κs = search needs
+
+returns : tie.Need-returns
+returns c =
+    let s = now (c .before .before .before .before .args .bytes) in
+    let f = c .before .first-seven in
+    c .rest .ensures ∙ none-left (wide 8 (f .result .x)) s 7 (search needs) ∙ f .ensures .0
+
+front-requires : tie.Need-front-requires
+front-requires c κs = search needs
+
+returns-2 : tie.Need-returns-2
+returns-2 c =
+    let s = now (c .before .before .before .before .args .bytes) in
+    none-left (c .front .result) s (length s) (search needs) ∙ c .front .ensures
+
+begin-requires : tie.Need-begin-requires
+begin-requires c κs = search needs
+
+folds-requires : tie.Need-folds-requires
+folds-requires c κs = search needs
+
+returns-3 : tie.Need-returns-3
+returns-3 c = search needs
+
+pub digest-bytes-spec : {M : Type 1} → statement M
+digest-bytes-spec =
+    tie.close
+    (tie.spec
+    first-seven-requires
+    rest-requires
+    returns
+    front-requires
+    returns-2
+    begin-requires
+    folds-requires
+    returns-3)

@@ -1,7 +1,6 @@
 
-// ---- Added behind the original's rx.rs: these lines, all of them, and no other. The published file names `TailByte` and
-// `TransferKind` and does not have them. The tail byte is the Cyphal Specification's: start 128, end 64, toggle 32, the transfer ID
-// in the low five bits. The last line is the door of the test copy.
+// ---- Added behind the published rx.rs, which names `TailByte` and `TransferKind` and does not have them. The tail byte is the Cyphal Specification's: start
+// 128, end 64, toggle 32, the transfer ID in the low five bits.
 
 #[derive(Debug, Clone, Copy)]
 pub(crate) struct TailByte {
@@ -13,12 +12,7 @@ pub(crate) struct TailByte {
 
 impl TailByte {
     pub fn parse(byte: u8) -> Self {
-        TailByte {
-            start: byte & 128 != 0,
-            end: byte & 64 != 0,
-            toggle: byte & 32 != 0,
-            transfer_id: CanTransferId::try_from(byte & 31).unwrap(),
-        }
+        TailByte { start: byte & 128 != 0, end: byte & 64 != 0, toggle: byte & 32 != 0, transfer_id: CanTransferId::try_from(byte & 31).unwrap() }
     }
 }
 

@@ -1,5 +1,6 @@
-//! Stand-in for canadensis_core, as far as the original's sender, queue and receiver use it: written from those uses and, for the CRC
-//! and the limits of the numbers, from the Cyphal Specification.
+//! Stand-in for canadensis_core, as far as the original uses it: written from those uses and, for the CRC and the limits of the numbers, from the Cyphal
+//! Specification.
+use transport::Transport;
 
 #[derive(Debug, PartialEq)]
 pub struct OutOfMemoryError;
@@ -80,6 +81,10 @@ macro_rules! number {
 number!(SubjectId, 8191);
 number!(ServiceId, 511);
 
+pub trait TransferIdTracker<T: Transport> {
+    fn next_transfer_id(&mut self, destination: T::NodeId) -> Result<T::TransferId, OutOfMemoryError>;
+}
+
 pub mod nb {
     #[derive(Debug, PartialEq)]
     pub enum Error<E> {
@@ -125,6 +130,12 @@ pub mod time {
             Self(ticks)
         }
     }
+    impl core::ops::Add<MicrosecondDuration32> for Microseconds32 {
+        type Output = Self;
+        fn add(self, more: MicrosecondDuration32) -> Self {
+            Self(self.0.wrapping_add(more.0))
+        }
+    }
     pub trait Clock {
         fn now(&mut self) -> Microseconds32;
     }
@@ -149,6 +160,7 @@ pub mod crc {
         }
         crc
     }
+    #[cfg(not(feature = "bitwise"))]
     const fn table() -> [u16; 256] {
         let mut table = [0; 256];
         let mut byte = 0;
@@ -158,9 +170,18 @@ pub mod crc {
         }
         table
     }
+    #[cfg(not(feature = "bitwise"))]
     static TABLE: [u16; 256] = table();
+    #[cfg(not(feature = "bitwise"))]
+    fn eight_bits(byte: u16) -> u16 {
+        TABLE[usize::from(byte)]
+    }
+    #[cfg(feature = "bitwise")]
+    fn eight_bits(byte: u16) -> u16 {
+        by_bits(byte)
+    }
 
-    /// CRC-16/CCITT-FALSE, by a table.
+    /// CRC-16/CCITT-FALSE, by a table or bit by bit.
     #[derive(Debug)]
     pub struct Crc16CcittFalse(u16);
     impl Crc16CcittFalse {
@@ -170,7 +191,7 @@ pub mod crc {
         }
         #[inline]
         pub fn digest(&mut self, byte: u8) {
-            self.0 = self.0 << 8 ^ TABLE[usize::from(self.0 >> 8 ^ u16::from(byte))];
+            self.0 = self.0 << 8 ^ eight_bits(self.0 >> 8 ^ u16::from(byte));
         }
         #[inline]
         pub fn digest_bytes(&mut self, bytes: &[u8]) {
@@ -200,12 +221,7 @@ pub mod transport {
         type Transport: Transport;
         type Driver;
         type Error;
-        fn push<A: AsRef<[u8]>>(
-            &mut self,
-            transfer: Transfer<A, Self::Transport>,
-            clock: &mut C,
-            driver: &mut Self::Driver,
-        ) -> nb::Result<(), Self::Error>;
+        fn push<A: AsRef<[u8]>>(&mut self, transfer: Transfer<A, Self::Transport>, clock: &mut C, driver: &mut Self::Driver) -> nb::Result<(), Self::Error>;
         fn flush(&mut self, clock: &mut C, driver: &mut Self::Driver) -> nb::Result<(), Self::Error>;
         fn mtu(&self) -> usize;
     }
@@ -213,11 +229,7 @@ pub mod transport {
         type Transport: Transport;
         type Driver;
         type Error;
-        fn receive(
-            &mut self,
-            clock: &mut C,
-            driver: &mut Self::Driver,
-        ) -> Result<Option<Transfer<Vec<u8>, Self::Transport>>, Self::Error>;
+        fn receive(&mut self, clock: &mut C, driver: &mut Self::Driver) -> Result<Option<Transfer<Vec<u8>, Self::Transport>>, Self::Error>;
         fn subscribe_message(
             &mut self,
             subject: SubjectId,

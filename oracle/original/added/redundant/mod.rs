@@ -1,0 +1,3 @@
+//! Added: the published source names this module and does not have it. Nothing of it is run.
+mod deduplicator;
+pub use self::deduplicator::Deduplicator;

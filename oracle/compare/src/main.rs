@@ -2,7 +2,9 @@
 //!
 //!   compare share | long       all modes, a bounded share of them or as many inputs as are written down
 //!   compare readings [few]     each wrong reading of the model must be found
+//!   compare answers FILE       writes a list of calls with the original's answers
 //!   compare MODE SEED COUNT    one mode
+mod answers;
 mod bus;
 mod chance;
 mod exhaustive;
@@ -46,7 +48,7 @@ const RUNS: [(&str, u64, u64); 7] = [
     ("tracker", 200_000, 5_000_000),
     ("making", 20_000, 1_000_000),
     ("queue", 150_000, 10_000_000),
-    ("send", 100_000, 16_000_000),
+    ("send", 100_000, 36_000_000),
     ("receive", 4_000_000, 110_000_000),
     ("exhaustive", u64::MAX, u64::MAX),
 ];
@@ -70,8 +72,9 @@ fn main() -> ExitCode {
         ["long"] => all(true),
         ["readings"] => readings::all(readings::WHOLE),
         ["readings", "few"] => readings::all(readings::FEW),
+        ["answers", file] => answers::write(file).is_ok(),
         [mode, seed, count] => one(mode, seed.parse().expect("a seed"), count.parse().expect("a count")),
-        _ => panic!("compare share | long | readings [few] | MODE SEED COUNT"),
+        _ => panic!("compare share | long | readings [few] | answers FILE | MODE SEED COUNT"),
     };
     if right {
         ExitCode::SUCCESS

@@ -10,7 +10,7 @@ pub struct Queue;
 
 #[derive(Clone, Debug)]
 pub struct Setup {
-    capacity: usize,
+    pub capacity: usize,
     /// Places lent: as many as the capacity, or more, or one fewer.
     places: usize,
 }

@@ -116,6 +116,13 @@ impl<const N: usize> Sending<N> {
         Sending { driver: QueueOnlyDriver::new(), transmitter: CanTransmitter::new(Mtu::Can8) }
     }
 
+    /// With an MTU of 8 or 64.
+    pub fn at(mtu: usize) -> Self {
+        let mut sending = Sending::new();
+        Line::set_mtu(&mut sending, mtu);
+        sending
+    }
+
     /// The queue itself.
     pub fn queue(&mut self) -> &mut ArrayQueue<N> {
         self.driver.probe()
@@ -197,15 +204,27 @@ fn header(transfer: &plain::Transfer) -> Result<Header, u8> {
 }
 
 impl<const N: usize> plain::Sends for Sending<N> {
+    type Made = Frame;
+    fn make(frame: &plain::Frame) -> Frame {
+        made(frame).expect("a frame")
+    }
+    #[inline]
+    fn push(&mut self, frame: &Frame) -> Result<(), u8> {
+        placed(self.queue().push_frame(frame.clone()))
+    }
+    #[inline]
     fn send(&mut self, transfer: &plain::Transfer, payload: &[u8]) -> Result<(), u8> {
         Line::send(self, transfer, payload)
     }
-    fn drain(&mut self) -> (usize, usize) {
-        let (mut frames, mut bytes) = (0, 0);
+    #[inline]
+    fn drain(&mut self) -> usize {
+        let mut bytes = 0;
         while let Some(frame) = self.queue().pop_frame() {
-            frames += 1;
             bytes += frame.data().len();
         }
-        (frames, bytes)
+        bytes
+    }
+    fn queued(&mut self) -> Vec<plain::Frame> {
+        self.queue().probe().map(told).collect()
     }
 }

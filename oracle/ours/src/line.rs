@@ -34,6 +34,7 @@ impl Line {
         answer.map(|()| Line { queue, places: vec![Place::EMPTY; places], transmitter })
     }
 
+    #[inline]
     pub fn push_frame(&mut self, frame: &plain::Frame) -> Result<(), u8> {
         let (places, count) = (self.places.as_mut_ptr(), self.places.len());
         let (bytes, length) = (frame.bytes().as_ptr(), frame.bytes().len());
@@ -138,22 +139,33 @@ fn told(frame: doors::Frame) -> Option<plain::Frame> {
 }
 
 impl plain::Sends for Line {
+    type Made = plain::Frame;
+    fn make(frame: &plain::Frame) -> plain::Frame {
+        *frame
+    }
+    #[inline]
+    fn push(&mut self, frame: &plain::Frame) -> Result<(), u8> {
+        self.push_frame(frame)
+    }
     #[inline]
     fn send(&mut self, transfer: &plain::Transfer, payload: &[u8]) -> Result<(), u8> {
         Line::send(self, transfer, payload)
     }
-
     #[inline]
-    fn drain(&mut self) -> (usize, usize) {
-        let (mut frames, mut bytes) = (0, 0);
+    fn drain(&mut self) -> usize {
+        let mut bytes = 0;
         loop {
             // SAFETY: the pointer and the count are those of one slice.
             let frame = unsafe { doors::dolomisc_queue_pop_frame(&mut self.queue, self.places.as_ptr(), self.places.len()) };
             if frame.what != doors::DONE {
-                return (frames, bytes);
+                return bytes;
             }
-            frames += 1;
             bytes += frame.length;
         }
+    }
+    fn queued(&mut self) -> Vec<plain::Frame> {
+        let mut all = Vec::new();
+        self.order(&mut all);
+        all
     }
 }

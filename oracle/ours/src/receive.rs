@@ -110,4 +110,7 @@ impl plain::Receives for Receiver {
         let got = self.received(frame);
         (got.what == doors::DELIVERED).then(|| self.shown(got, frame.bytes()).0.len())
     }
+    fn answer(&mut self, frame: &Frame) -> Answer {
+        Receiver::accept(self, frame).0
+    }
 }

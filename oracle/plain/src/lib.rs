@@ -161,17 +161,24 @@ pub struct Session {
     pub total: usize,
 }
 
-/// A side that receives, as the benchmark uses it: frames are made before, and what each gives is a number of bytes.
+/// A side that receives, as the benchmark uses it: frames are made before.
 pub trait Receives {
     type Made;
     fn make(frame: &Frame) -> Self::Made;
     /// The bytes of the delivery, if there is one.
     fn accept(&mut self, frame: &Self::Made) -> Option<usize>;
+    /// The whole answer.
+    fn answer(&mut self, frame: &Self::Made) -> Answer;
 }
 
-/// A side that sends, as the benchmark uses it.
+/// A side that queues and sends, as the benchmark uses it.
 pub trait Sends {
+    type Made;
+    fn make(frame: &Frame) -> Self::Made;
+    fn push(&mut self, frame: &Self::Made) -> Result<(), u8>;
     fn send(&mut self, transfer: &Transfer, payload: &[u8]) -> Result<(), u8>;
-    /// Pops all, and says how many frames there were and the sum of their lengths.
-    fn drain(&mut self) -> (usize, usize);
+    /// Pops all, and says the sum of their lengths.
+    fn drain(&mut self) -> usize;
+    /// The frames in their order.
+    fn queued(&mut self) -> Vec<Frame>;
 }

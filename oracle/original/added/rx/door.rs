@@ -125,6 +125,9 @@ impl plain::Receives for Receiver {
             _ => None,
         }
     }
+    fn answer(&mut self, frame: &Frame) -> Answer {
+        Receiver::accept(self, frame.clone())
+    }
 }
 
 struct NoClock;

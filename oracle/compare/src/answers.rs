@@ -27,9 +27,9 @@
 //!   13 accept          flag, w0 stamp, w1 CAN ID, data its bytes                 what, refusal; of a delivery also w2 header, w3 port, ID and flag,
 //!                                                                                w4 stamp, w5 length, w6 the mix of its bytes
 //!
-//! A header is kind + 2^8 priority + 2^16 source + 2^24 destination, 255 standing for no node. Port, ID and flag are port + 2^16 transfer ID + 2^24 loopback flag.
-//! A payload is length + 2^16 seed, and its bytes follow from the seed: x becomes 1664525 x + 1013904223 modulo 2^32 before each byte, which is x / 2^24; x begins
-//! as the seed. The mix of bytes begins as 2166136261; for each byte it becomes (mix xor byte) times 16777619 modulo 2^32.
+//! A header is kind + 2^8 priority + 2^16 source + 2^24 destination, 255 standing for no node. Port, ID and flag are port + 2^16 transfer ID + 2^24 flag.
+//! A payload is length + 2^16 seed, and its bytes follow from the seed: x becomes 1664525 x + 1013904223 modulo 2^32 before each byte, which is x / 2^24; x
+//! begins as the seed. The mix of bytes begins as 2166136261; for each byte it becomes (mix xor byte) times 16777619 modulo 2^32.
 use crate::chance::Chance;
 use crate::mode::Mode;
 use crate::{queue, receive, send};

@@ -1,5 +1,5 @@
-//! Random traffic of a bus: several sources send transfers, and frames are lost, repeated, reordered, damaged, cut, foreign, anonymous or looped back. Stamps stand,
-//! step, jump by the timeout and one around it, by 2^31 and one around it, and go back.
+//! Random traffic of a bus: several sources send transfers, and frames are lost, repeated, reordered, damaged, cut, foreign, anonymous or looped back. Stamps
+//! stand, step, jump by the timeout and one around it, by 2^31 and one around it, and go back.
 use crate::chance::Chance;
 use crate::receive::Setup;
 use model::wire::{can_id, crc, Tail};

@@ -1,6 +1,6 @@
 //! All histories of two frames, and then of three, over a small alphabet of tails, bytes, stamps and flags. The sources know nothing of each other, so 128
 //! histories go to one subscription, each from a source of its own.
-use crate::mode::{Difference, Mode, Tally};
+use crate::mode::{Difference, Histories, Mode, Tally};
 use crate::receive::{self, Setup};
 use model::Reading;
 use plain::{Asked, Frame};
@@ -85,7 +85,7 @@ impl Mode for Exhaustive {
     type Setup = Setup;
     type Call = Frame;
 
-    fn histories(_: u64) -> Box<dyn Iterator<Item = (Setup, Vec<Frame>)>> {
+    fn histories(_: u64) -> Histories<Setup, Frame> {
         let of_two = SETTINGS.into_iter().flat_map(|(timeout, extent)| packed(timeout, extent, two(timeout)));
         let of_three = SETTINGS[..2].iter().flat_map(|(timeout, extent)| packed(*timeout, *extent, three(*timeout)));
         Box::new(of_two.chain(of_three))

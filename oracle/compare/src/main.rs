@@ -22,7 +22,7 @@ use exhaustive::Exhaustive;
 use making::Making;
 use mode::report;
 use plans::Plans;
-use queue::Queue;
+use queue::{Queue, Short};
 use receive::Receive;
 use send::Send;
 use std::process::ExitCode;
@@ -35,6 +35,7 @@ fn one(mode: &str, seed: u64, count: u64) -> bool {
         "tracker" => report::<Tracker>(seed, count),
         "making" => report::<Making>(seed, count),
         "queue" => report::<Queue>(seed, count),
+        "queue-short" => report::<Short>(seed, count),
         "send" => report::<Send>(seed, count),
         "receive" => report::<Receive>(seed, count),
         "exhaustive" => report::<Exhaustive>(seed, count),
@@ -43,11 +44,12 @@ fn one(mode: &str, seed: u64, count: u64) -> bool {
 }
 
 /// Calls in each mode: of a share, and of a long run. A checked build's seeds are others.
-const RUNS: [(&str, u64, u64); 7] = [
+const RUNS: [(&str, u64, u64); 8] = [
     ("plans", u64::MAX, u64::MAX),
     ("tracker", 200_000, 5_000_000),
     ("making", 20_000, 1_000_000),
     ("queue", 150_000, 10_000_000),
+    ("queue-short", u64::MAX, u64::MAX),
     ("send", 100_000, 36_000_000),
     ("receive", 4_000_000, 110_000_000),
     ("exhaustive", u64::MAX, u64::MAX),

@@ -1,6 +1,6 @@
 //! Makings of subscriptions: each field at its limit and one over, each kind, and frames to what was refused.
 use crate::chance::Chance;
-use crate::mode::{agree, equal, Difference, Mode, Tally};
+use crate::mode::{agree, equal, Difference, Histories, Mode, Tally};
 use model::{receive, Reading};
 use plain::{Answer, Asked, Frame};
 
@@ -11,7 +11,7 @@ impl Mode for Making {
     type Setup = ();
     type Call = Asked;
 
-    fn histories(seed: u64) -> Box<dyn Iterator<Item = ((), Vec<Asked>)>> {
+    fn histories(seed: u64) -> Histories<(), Asked> {
         Box::new((0..).map(move |history| {
             let chance = &mut Chance::new(seed, history);
             let any = chance.next() as u16;

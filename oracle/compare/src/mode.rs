@@ -3,6 +3,9 @@ use model::Reading;
 use std::collections::BTreeMap;
 use std::fmt::Debug;
 
+/// Setups, each with the calls that follow it.
+pub type Histories<S, C> = Box<dyn Iterator<Item = (S, Vec<C>)>>;
+
 /// One kind of input. A history is a setup and the calls that follow it, each answered by all three sides.
 pub trait Mode {
     const NAME: &'static str;
@@ -10,7 +13,7 @@ pub trait Mode {
     type Call: Clone + Debug;
 
     /// Fixed histories first, then random ones by seed, if the mode has such.
-    fn histories(seed: u64) -> Box<dyn Iterator<Item = (Self::Setup, Vec<Self::Call>)>>;
+    fn histories(seed: u64) -> Histories<Self::Setup, Self::Call>;
 
     /// Makes the calls on all sides, and compares after each.
     fn run(setup: &Self::Setup, calls: &[Self::Call], reading: Reading, tally: &mut Tally) -> Result<(), Difference>;
@@ -47,7 +50,7 @@ impl Tally {
 
 /// The two sides that always answer, and the original where it was asked.
 pub fn agree<T: PartialEq + Debug>(at: usize, what: &str, ours: &T, model: &T, original: Option<&T>) -> Result<(), Difference> {
-    if ours == model && original.map_or(true, |original| original == ours) {
+    if ours == model && original.is_none_or(|original| original == ours) {
         return Ok(());
     }
     let original = original.map_or(String::from("not asked"), |original| format!("{original:?}"));

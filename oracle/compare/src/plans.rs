@@ -1,5 +1,5 @@
 //! The frame plan: every length from 0 to two over the limit at both MTUs, and MTUs that are refused.
-use crate::mode::{agree, Difference, Mode, Tally};
+use crate::mode::{agree, Difference, Histories, Mode, Tally};
 use model::{wire, Reading};
 use std::iter;
 
@@ -11,7 +11,7 @@ impl Mode for Plans {
     /// Payload length and MTU.
     type Call = (usize, usize);
 
-    fn histories(_: u64) -> Box<dyn Iterator<Item = ((), Vec<(usize, usize)>)>> {
+    fn histories(_: u64) -> Histories<(), (usize, usize)> {
         let lengths = [8, 64].into_iter().flat_map(|mtu| (0..=1026).map(move |length| (length, mtu)));
         let far = [8, 64].into_iter().flat_map(|mtu| [4096, 1 << 32, usize::MAX].map(|length| (length, mtu)));
         let mtus = (0..=70).chain([256, 264, 1 << 32, (1 << 32) + 8, usize::MAX]).flat_map(|mtu| [0, 7, 1025].map(|length| (length, mtu)));

@@ -1,6 +1,6 @@
 //! The queue: random pushes, returns, pops, peeks and questions at each capacity, the whole order compared after each.
 use crate::chance::Chance;
-use crate::mode::{agree, equal, Difference, Mode, Tally};
+use crate::mode::{agree, equal, Difference, Histories, Mode, Tally};
 use model::Reading;
 use plain::Frame;
 
@@ -59,7 +59,7 @@ impl Mode for Queue {
     type Setup = Setup;
     type Call = Call;
 
-    fn histories(seed: u64) -> Box<dyn Iterator<Item = (Setup, Vec<Call>)>> {
+    fn histories(seed: u64) -> Histories<Setup, Call> {
         Box::new((0..).map(move |history| {
             let chance = &mut Chance::new(seed, history);
             let capacity = CAPACITIES[history as usize % CAPACITIES.len()];
@@ -75,24 +75,60 @@ impl Mode for Queue {
     }
 
     fn run(setup: &Setup, calls: &[Call], reading: Reading, tally: &mut Tally) -> Result<(), Difference> {
-        let made = ours::Line::new(setup.capacity, setup.places, 8, (0, 0));
-        let mut sides = match made {
-            Ok(ours) => Sides::new(setup, ours, reading),
-            Err(number) => {
-                tally.inputs += 1;
-                equal(0, "making", &(number, setup.capacity > 256), &(14, true))?;
-                tally.list("a queue of more than 256 frames");
-                return Ok(());
-            }
-        };
-        equal(0, "a capacity that is made", &(setup.capacity <= 256), &true)?;
-        for (at, call) in calls.iter().enumerate() {
-            tally.inputs += 1;
-            sides.answer(at, call, tally)?;
-            sides.order(at)?;
-        }
-        Ok(())
+        run(setup, calls, reading, tally)
     }
+}
+
+/// All histories of six calls at the small capacities: two IDs pushed and returned, and a pop. Each frame bears the number of its call as its stamp.
+pub struct Short;
+
+const CALLS: usize = 6;
+const LETTERS: usize = 5;
+
+fn letter(letter: usize, at: usize) -> Call {
+    let frame = |id| Frame::new(at as u32, id, false, &[]);
+    match letter {
+        0 => Call::Push(frame(5)),
+        1 => Call::Push(frame(6)),
+        2 => Call::Return(frame(5)),
+        3 => Call::Return(frame(6)),
+        _ => Call::Pop,
+    }
+}
+
+impl Mode for Short {
+    const NAME: &'static str = "queue-short";
+    type Setup = Setup;
+    type Call = Call;
+
+    fn histories(_: u64) -> Histories<Setup, Call> {
+        let of_number = |number: usize| (0..CALLS).map(|at| letter(number / LETTERS.pow(at as u32) % LETTERS, at)).collect();
+        let at_capacity = move |capacity| (0..LETTERS.pow(CALLS as u32)).map(move |number| (Setup { capacity, places: capacity }, of_number(number)));
+        Box::new((0..=3).flat_map(at_capacity))
+    }
+
+    fn run(setup: &Setup, calls: &[Call], reading: Reading, tally: &mut Tally) -> Result<(), Difference> {
+        run(setup, calls, reading, tally)
+    }
+}
+
+fn run(setup: &Setup, calls: &[Call], reading: Reading, tally: &mut Tally) -> Result<(), Difference> {
+    let mut sides = match ours::Line::new(setup.capacity, setup.places, 8, (0, 0)) {
+        Ok(ours) => Sides::new(setup, ours, reading),
+        Err(number) => {
+            tally.inputs += 1;
+            equal(0, "making", &(number, setup.capacity > 256), &(14, true))?;
+            tally.list("a queue of more than 256 frames");
+            return Ok(());
+        }
+    };
+    equal(0, "a capacity that is made", &(setup.capacity <= 256), &true)?;
+    for (at, call) in calls.iter().enumerate() {
+        tally.inputs += 1;
+        sides.answer(at, call, tally)?;
+        sides.order(at)?;
+    }
+    Ok(())
 }
 
 struct Sides {

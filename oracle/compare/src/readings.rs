@@ -3,7 +3,7 @@ use crate::exhaustive::Exhaustive;
 use crate::making::Making;
 use crate::mode::{run, Mode, Tally};
 use crate::plans::Plans;
-use crate::queue::Queue;
+use crate::queue::{Queue, Short};
 use crate::receive::Receive;
 use crate::send::Send;
 use crate::tracker::Tracker;
@@ -27,6 +27,7 @@ fn by(mode: &str, reading: Reading, most: u64) -> Option<u64> {
         "tracker" => after::<Tracker>(reading, most),
         "making" => after::<Making>(reading, most),
         "queue" => after::<Queue>(reading, most),
+        "queue-short" => after::<Short>(reading, most),
         "send" => after::<Send>(reading, most),
         "receive" => after::<Receive>(reading, most),
         "exhaustive" => after::<Exhaustive>(reading, most),

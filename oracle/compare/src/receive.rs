@@ -1,8 +1,8 @@
-//! Receiving: the same frames to both doors of the original, to this project and to the model. After each frame the answer, the place of a delivery's bytes, the
-//! slot and the store are compared: the slot of the frame's source on all sides, every other slot here with what it was before, the source's part of the store
-//! with the model's, and the whole store where it is small, else each 64th frame and at the end.
+//! Receiving: the same frames to both doors of the original, to this project and to the model. After each frame the answer, the place of a delivery's bytes,
+//! the slot and the store are compared: the slot of the frame's source on all sides, every other slot here with what it was before, the source's part of the
+//! store with the model's, and the whole store where it is small, else each 64th frame and at the end.
 use crate::bus;
-use crate::mode::{agree, equal, Difference, Mode, Tally};
+use crate::mode::{agree, equal, Difference, Histories, Mode, Tally};
 use model::Reading;
 use ours::Words;
 use plain::{Answer, Asked, Delivery, Frame, Lying, Slot};
@@ -22,7 +22,7 @@ impl Mode for Receive {
     type Setup = Setup;
     type Call = Frame;
 
-    fn histories(seed: u64) -> Box<dyn Iterator<Item = (Setup, Vec<Frame>)>> {
+    fn histories(seed: u64) -> Histories<Setup, Frame> {
         Box::new((0..).map(move |history| bus::history(seed, history)))
     }
 
@@ -217,8 +217,8 @@ fn delivery(answer: &Answer) -> Option<&Delivery> {
 const UNMARKED: &str = "an anonymous frame without start, end and toggle";
 const LOOPED: &str = "a service frame that is a loopback, for another node";
 
-/// Where the original's whole receiver is known to do otherwise: it counts an error for an anonymous frame without all three marks, and takes a loopback frame of
-/// a service for another node, which it is therefore not shown.
+/// Where the original's whole receiver is known to do otherwise: it counts an error for an anonymous frame without all three marks, and takes a loopback frame
+/// of a service for another node, which it is therefore not shown.
 fn listed(asked: &Asked, frame: &Frame) -> Option<&'static str> {
     let bit = |at: u32| frame.id >> at & 1 == 1;
     let last = frame.bytes().last()?;

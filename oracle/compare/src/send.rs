@@ -1,7 +1,7 @@
 //! Sending: every kind and every length from 0 to one over the limit at both MTUs, each field at its limit and one over, then random sends to queues of each
 //! capacity, with pops between them. After each call the answer, the counts and the whole order of the queue are compared.
 use crate::chance::Chance;
-use crate::mode::{agree, equal, Difference, Mode, Tally};
+use crate::mode::{agree, equal, Difference, Histories, Mode, Tally};
 use model::Reading;
 use plain::{Frame, Header, Transfer, MESSAGE, NO_NODE, REQUEST, RESPONSE};
 
@@ -110,7 +110,7 @@ impl Mode for Send {
     type Setup = Setup;
     type Call = Call;
 
-    fn histories(seed: u64) -> Box<dyn Iterator<Item = (Setup, Vec<Call>)>> {
+    fn histories(seed: u64) -> Histories<Setup, Call> {
         let random = (0..).map(move |history| {
             let chance = &mut Chance::new(seed, history);
             let capacity = chance.of(&[0, 1, 2, 3, 16, 16, 16, 255, 256]);

@@ -1,6 +1,6 @@
 //! The tracker: each destination forty times in turn, then random ones, from fresh rows and from any rows.
 use crate::chance::Chance;
-use crate::mode::{agree, equal, Difference, Mode, Tally};
+use crate::mode::{agree, equal, Difference, Histories, Mode, Tally};
 use model::Reading;
 
 pub struct Tracker;
@@ -11,7 +11,7 @@ impl Mode for Tracker {
     type Setup = [u8; 128];
     type Call = u8;
 
-    fn histories(seed: u64) -> Box<dyn Iterator<Item = (Self::Setup, Vec<u8>)>> {
+    fn histories(seed: u64) -> Histories<Self::Setup, u8> {
         let in_turn = (0..=255).flat_map(|destination| [destination; 40]).collect();
         let random = (0..).map(move |history| {
             let chance = &mut Chance::new(seed, history);

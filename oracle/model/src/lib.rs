@@ -1,5 +1,5 @@
-//! Document 01 in plain Rust, as short as can be and slow where that is plainer. It was written from the document's text alone. Each function takes a `Reading`:
-//! `Reading::Right`, or one of the misreadings that the comparison must be able to find.
+//! Document 01 in plain Rust, as short as can be and slow where that is plainer. It was written from the document's text alone. Each function takes a
+//! `Reading`: `Reading::Right`, or one of the misreadings that the comparison must be able to find.
 pub mod queue;
 pub mod readings;
 pub mod receive;

@@ -33,8 +33,8 @@ readings! {
     LengthBeforeFields: "send", "refusal 10 stands before refusal 12";
     AnonymousInAFullMtu: "send", "an anonymous payload may have MTU bytes";
     StampOfNow: "send", "only the first frame bears the transfer's stamp";
-    PushedInFront: "queue send", "a pushed frame goes in front of its equals";
-    ReturnedBehind: "queue", "a returned frame goes behind its equals";
+    PushedInFront: "queue queue-short send", "a pushed frame goes in front of its equals";
+    ReturnedBehind: "queue queue-short", "a returned frame goes behind its equals";
     PriorityAlone: "queue send", "the queue is ordered by priority alone";
     FullBeforeLength: "queue", "refusal 13 stands before refusal 3";
     EmptyFrameRefused: "queue", "a frame of no bytes is refused by the queue";

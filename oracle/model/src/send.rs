@@ -91,8 +91,9 @@ fn body(reading: Reading, payload: &[u8], mtu: usize) -> Vec<u8> {
     let plan = plan(reading, payload.len(), mtu).expect("judged");
     let mut bytes = payload.to_vec();
     bytes.resize(payload.len() + plan.padding, 0);
-    let crc_in_full_frame = reading == Reading::CrcInAFullFrame && payload.len() == mtu - 1;
-    if payload.len() <= mtu - 1 && !crc_in_full_frame {
+    let room = mtu - 1;
+    let crc_in_full_frame = reading == Reading::CrcInAFullFrame && payload.len() == room;
+    if payload.len() <= room && !crc_in_full_frame {
         return bytes;
     }
     let start = if reading == Reading::CrcStartsAtZero { 0 } else { 0xFFFF };

@@ -21,7 +21,7 @@ impl Tracker {
         let given = *number;
         *number = match self.reading {
             Reading::IdStaysAt31 => (given + 1).min(31),
-            Reading::StraddleLost => (given + 1) % 32 & first_word_part(destination),
+            Reading::StraddleLost => ((given + 1) % 32) & first_word_part(destination),
             _ => (given + 1) % 32,
         };
         Ok(given)

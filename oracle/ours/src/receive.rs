@@ -27,6 +27,7 @@ impl Receiver {
         }
     }
 
+    #[inline]
     fn received(&mut self, frame: &Frame) -> doors::Received {
         let (store, store_length) = (self.store.as_mut_ptr(), self.store.len());
         let (bytes, length) = (frame.bytes().as_ptr(), frame.bytes().len());
@@ -34,6 +35,7 @@ impl Receiver {
         unsafe { doors::dolomisc_subscription_accept(self.subscription, &mut *self.slots, store, store_length, marks(frame), bytes, length) }
     }
 
+    #[inline]
     fn shown<'a>(&'a self, got: doors::Received, frame: &'a [u8]) -> (&'a [u8], Lying) {
         // SAFETY: each pointer and its length are those of one slice.
         let span = unsafe { doors::dolomisc_payload(got, frame.as_ptr(), frame.len(), self.store.as_ptr(), self.store.len()) };

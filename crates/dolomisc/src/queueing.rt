@@ -115,9 +115,9 @@ pub extern "C" fn dolomisc_queue_return_frame(
 {
     let q = states::queue_in(*queue);
     let pushed = q.return_frame(places, headers::marks_from(marks), bytes);
-    let after = pushed.queue;
+    let returned = pushed.queue;
     let answer = pushed.answer;
-    *queue = states::queue_words(after);
+    *queue = states::queue_words(returned);
     answers::of_placing(answer)
 }
 
@@ -138,9 +138,9 @@ pub extern "C" fn dolomisc_queue_pop_frame(queue: &mut QueueWords, places: &[Pla
 {
     let q = states::queue_in(*queue);
     let popped = q.pop_frame(places);
-    let after = popped.queue;
+    let rest = popped.queue;
     let held = popped.held;
-    *queue = states::queue_words(after);
+    *queue = states::queue_words(rest);
     held_told(held)
 }
 

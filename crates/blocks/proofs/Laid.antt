@@ -58,7 +58,7 @@ pub reach : {e f : List ℕ} (s d : List ℕ) (i j k n : ℕ) → e ≡ begun s 
     → (j ≤ i) × (max i (j + k) ≡ n) × (j + k ≤ length s) × (j + k ≤ length d) → f ≡ begun s d n
 reach s d i j k n p q (h, e, hs, hd) = q ∙ ap (λ (m : List ℕ). over m s j k) p ∙ block s d i j k h hs hd ∙ ap (begun s d) e
 
--- ---- a block of four, and of two fours
+-- ---- a block of four, and of several fours
 
 -- four elements written as they were read
 pub four : {e : List ℕ} {f : Four} (d s : List ℕ) (i : ℕ) → e ≡ withFour d i f → f ≡ fourAt s i → e ≡ over d s i 4
@@ -74,9 +74,9 @@ apart d s j a (suc b) =
     let f : j + a + b ≡ j + (a + b) = omega arith in
     ap₂ (λ (m : List ℕ) (n : ℕ). set m n (getD s n 0)) (apart d s j a b) f ∙ ap (over d s j) e
 
--- a block of two halves, one behind the other
-pub halves : {e f : List ℕ} (d s : List ℕ) (i k : ℕ) → e ≡ over d s i k → f ≡ over e s (i + k) k → f ≡ over d s i (k + k)
-halves d s i k p q = q ∙ ap (λ (m : List ℕ). over m s (i + k) k) p ∙ apart d s i k k
+-- a block of k, and one of n behind it
+pub onward : {e f : List ℕ} (d s : List ℕ) (i k n : ℕ) → e ≡ over d s i k → f ≡ over e s (i + k) n → f ≡ over d s i (k + n)
+onward d s i k n p q = q ∙ ap (λ (m : List ℕ). over m s (i + k) n) p ∙ apart d s i k n
 
 -- ---- all of s, and as much of it as fits
 

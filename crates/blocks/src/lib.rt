@@ -1,7 +1,9 @@
-// A copy of bytes by blocks of eight. The last block ends where the bytes end and may overlap the one before it, so that
+// A copy of bytes by blocks of sixteen. The last block ends where the bytes end and may overlap the one before it, so that
 // no loop over single bytes is left. No public function has a `requires`.
 ghost use mathlib.Core.Path.{_≡_};
+ghost use mathlib.Core.Bool.{_&&_, cond};
 ghost use Prim.Native.Nat.{_+_, _≤_, _<_};
+ghost use lib.Dec.{eqb, leb};
 ghost use lib.ListN.{length, getD, set};
 ghost use Rattle.blocks.specs.Blocks.{fourAt, withFour, over};
 ghost use Rattle.laws.specs.Laid.{laid};
@@ -83,6 +85,24 @@ fn put8(src: &[u8], dst: &mut [u8], i: usize)
     write4(dst, j, back);
 }
 
+// Copies sixteen bytes, from i on. All are read before the first is written: the compiler makes one load and one store.
+fn put16(src: &[u8], dst: &mut [u8], i: usize)
+    requires { ⌜ (i + 16 ≤ length (now src)) × (i + 16 ≤ length (now dst)) ⌝ }
+    ensures { λ _. ⌜ now (dst .exit) ≡ over (now (dst .entry)) (now (src .entry)) i 16 ⌝ }
+{
+    let j = i + 4;
+    let k = i + 8;
+    let l = i + 12;
+    let first = read4(src, i);
+    let second = read4(src, j);
+    let third = read4(src, k);
+    let fourth = read4(src, l);
+    write4(dst, i, first);
+    write4(dst, j, second);
+    write4(dst, k, third);
+    write4(dst, l, fourth);
+}
+
 // Fewer than four bytes: the first, the middle one and the last, which may be the same.
 fn few(src: &[u8], dst: &mut [u8])
     requires { ⌜ (length (now src) < 4) × (length (now src) ≤ length (now dst)) ⌝ }
@@ -107,18 +127,28 @@ fn fours(src: &[u8], dst: &mut [u8])
     put4(src, dst, last);
 }
 
-// Eight bytes and more: blocks of eight up to the last eight, and those.
+// Eight to fifteen bytes: the first eight and the last eight, which overlap.
 fn eights(src: &[u8], dst: &mut [u8])
-    requires { ⌜ (8 ≤ length (now src)) × (length (now src) ≤ length (now dst)) ⌝ }
+    requires { ⌜ (8 ≤ length (now src)) × (length (now src) < 16) × (length (now src) ≤ length (now dst)) ⌝ }
     ensures { λ _. ⌜ now (dst .exit) ≡ laid (now (src .entry)) (now (dst .entry)) ⌝ }
 {
     let last = src.len() - 8;
+    put8(src, dst, 0);
+    put8(src, dst, last);
+}
+
+// Sixteen bytes and more: blocks of sixteen up to the last sixteen, and those.
+fn sixteens(src: &[u8], dst: &mut [u8])
+    requires { ⌜ (16 ≤ length (now src)) × (length (now src) ≤ length (now dst)) ⌝ }
+    ensures { λ _. ⌜ now (dst .exit) ≡ laid (now (src .entry)) (now (dst .entry)) ⌝ }
+{
+    let last = src.len() - 16;
     let mut i = 0;
     while i < last {
-        put8(src, dst, i);
-        i += 8;
+        put16(src, dst, i);
+        i += 16;
     }
-    put8(src, dst, last);
+    put16(src, dst, last);
 }
 
 // Copies all of src.
@@ -135,7 +165,11 @@ fn whole(src: &[u8], dst: &mut [u8]) -> usize
         fours(src, dst);
         return n;
     }
-    eights(src, dst);
+    if n < 16 {
+        eights(src, dst);
+        return n;
+    }
+    sixteens(src, dst);
     n
 }
 
@@ -149,4 +183,20 @@ pub fn copy(src: &[u8], dst: &mut [u8]) -> usize
         return whole(&src[..room], dst);
     }
     whole(src, dst)
+}
+
+// Copies seven bytes, as a full frame of 8 has before its tail byte, or none: where there are not just seven, or where dst has no room for them. Says whether it
+// did. For a caller with seven bytes at hand, the compiler leaves two loads and two stores of it.
+pub fn copy_seven(src: &[u8], dst: &mut [u8]) -> bool
+    ensures { λ r. ⌜ r ≡ (eqb (length (now (src .entry))) 7 && leb 7 (length (now (dst .entry)))) ⌝ }
+    ensures { λ r. ⌜ now (dst .exit) ≡ cond r (laid (now (src .entry)) (now (dst .entry))) (now (dst .entry)) ⌝ }
+{
+    if src.len() != 7 {
+        return false;
+    }
+    if dst.len() < 7 {
+        return false;
+    }
+    fours(src, dst);
+    true
 }

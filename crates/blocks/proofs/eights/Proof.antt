@@ -1,58 +1,34 @@
--- The loop keeps: the first i bytes are those of src, and the others are as before. The last block begins within them, or at their end.
-use mathlib.Core.Path.{_≡_, refl, _∙_}
-use Prim.Native.Nat.{_+_, _-_, _≤_}
+-- The last eight bytes begin within the first eight, or at their end.
+use mathlib.Core.Path.{refl, _∙_}
+use Prim.Native.Nat.{_-_}
 use native.Mathlib.Omega.{arith}
 use lib.ListN.{length}
 use denote.Ref.{now}
 use borrow.Author.Needs.{needs}
-use Rattle.blocks.proofs.Laid.{begun, reach, all}
+use Rattle.blocks.proofs.Laid.{reach, all}
 use Rattle.blocks.proofs.eights.Statement.{statement}
 use Rattle.blocks.proofs.eights.Tie as tie
 
-abbrev Inv-loop : tie.InvT-loop
-Inv-loop src dst₀ last i₀ dst i = (i ≤ length src) × (last + 8 ≡ length src) × (length dst ≡ length dst₀) × (dst ≡ begun src dst₀ i)
+sub-last : tie.Need-sub-last
+sub-last c = search needs
 
-abbrev μ-loop : tie.MeasureT-loop
-μ-loop src dst₀ last i₀ dst i = last - i
+put8-requires : tie.Need-put8-requires
+put8-requires c κs = search needs
 
-sub-last : tie.Need-sub-last Inv-loop μ-loop
-sub-last c = omega arith
+put8-requires-2 : tie.Need-put8-requires-2
+put8-requires-2 c κs = search needs
 
-loop-holds : tie.Need-loop-holds Inv-loop μ-loop
-loop-holds c = (omega arith, omega arith, refl, refl)
-
-put8-requires : tie.Need-put8-requires Inv-loop μ-loop
-put8-requires c κs = omega arith
-
-add-i : tie.Need-add-i Inv-loop μ-loop
-add-i c = omega arith
-
-loop-less : tie.Need-loop-less Inv-loop μ-loop
-loop-less c = omega arith
-
-loop-again : tie.Need-loop-again Inv-loop μ-loop
-loop-again c =
-    let l = c .before .before .before .before .before .loop in
-    let a = c .before .before .before .before .before .before .before .before .args in
-    let s = now (a .src) in
-    let d = now (a .dst) in
-    (omega arith, omega arith, search needs, reach s d (l .i) (l .i) 8 (l .i + 8) (l .inv .3) (c .before .before .put8 .ensures) (search needs))
-
-put8-requires-2 : tie.Need-put8-requires-2 Inv-loop μ-loop
-put8-requires-2 c κs = omega arith
-
-same-length : tie.Need-same-length Inv-loop μ-loop
+same-length : tie.Need-same-length
 same-length c = search needs
 
-returns : tie.Need-returns Inv-loop μ-loop
+returns : tie.Need-returns
 returns c =
-    let l = c .before .before .before .before .before .loop in
-    let a = c .before .before .before .before .before .before .before .before .args in
+    let a = c .before .before .before .before .before .before .before .before .before .before .args in
     let s = now (a .src) in
     let d = now (a .dst) in
     let n = length s in
-    reach s d (l .i) (n - 8) 8 n (l .inv .3) (c .before .before .put82 .ensures) (search needs) ∙ all s d (omega arith)
+    let first = reach s d 0 0 8 8 refl (c .before .before .before .before .before .before .put8 .ensures) (search needs) in
+    reach s d 8 (n - 8) 8 n first (c .before .before .put82 .ensures) (search needs) ∙ all s d (omega arith)
 
 pub eights-spec : {M : Type 1} → statement M
-eights-spec =
-    tie.close (tie.spec Inv-loop μ-loop sub-last loop-holds put8-requires add-i loop-less loop-again put8-requires-2 same-length returns)
+eights-spec = tie.close (tie.spec sub-last put8-requires put8-requires-2 same-length returns)

@@ -1,7 +1,7 @@
 -- Two blocks of four, one behind the other, are the block of eight.
 use Prim.Native.Nat.{_+_}
 use denote.Ref.{now}
-use Rattle.blocks.proofs.Laid.{four, halves}
+use Rattle.blocks.proofs.Laid.{four, onward}
 use borrow.Author.Needs.{needs}
 use Rattle.blocks.proofs.put8.Statement.{statement}
 use Rattle.blocks.proofs.put8.Tie as tie
@@ -32,7 +32,7 @@ returns c =
     let e = c .before .before .before .before .before .before .write4 in
     let front = four d s (a .i) (e .ensures) (c .before .before .before .before .before .before .before .before .before .read4 .ensures) in
     let back = four (e .last .0) s (a .i + 4) (c .before .before .write42 .ensures) (c .before .before .before .before .before .before .before .before .read42 .ensures) in
-    halves d s (a .i) 4 front back
+    onward d s (a .i) 4 4 front back
 
 pub put8-spec : {M : Type 1} → statement M
 put8-spec =

@@ -176,19 +176,36 @@ fn begin(crc: u16, s: &[u8]) -> Begun
     }
 }
 
-// The register after the bytes, from the register crc: the odd bytes first, then folds of eight. Seven bytes, as a full frame of 8 has, need no fold. One call
-// to `folds`, so that the compiler puts it in line.
+// The register after seven bytes, from the register crc: they need no fold.
+fn just_seven(crc: u16, s: &[u8]) -> u16
+    requires { ⌜ length (now s) ≡ 7 ⌝ }
+    ensures { λ r. ⌜ r ≡ crcFrom crc (now (s .entry)) ⌝ }
+{
+    let first = first_seven(crc, s);
+    rest(first.x, first.top)
+}
+
+// The register after the bytes, from the register crc: the odd bytes first, then folds of eight. One call to `folds`, so that the compiler puts it in line.
 pub fn digest_bytes(crc: u16, bytes: &[u8]) -> u16
     ensures { λ r. ⌜ r ≡ crcFrom crc (now (bytes .entry)) ⌝ }
 {
     let len = bytes.len();
     if len == 7 {
-        let seven = first_seven(crc, bytes);
-        return rest(seven.x, seven.top);
+        return just_seven(crc, bytes);
     }
     if len < 8 {
         return front(crc, bytes, len);
     }
     let begun = begin(crc, bytes);
     folds(begun.x, bytes, begun.taken)
+}
+
+// As digest_bytes, for a caller that mostly has seven bytes, as a full frame of 8 has before its tail byte: the compiler puts them in line.
+pub fn digest_seven(crc: u16, bytes: &[u8]) -> u16
+    ensures { λ r. ⌜ r ≡ crcFrom crc (now (bytes .entry)) ⌝ }
+{
+    if bytes.len() != 7 {
+        return digest_bytes(crc, bytes);
+    }
+    just_seven(crc, bytes)
 }

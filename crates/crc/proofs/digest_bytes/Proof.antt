@@ -1,24 +1,17 @@
--- Seven bytes leave what their number leaves; fewer go in one by one; more are begun, and folded on.
+-- Fewer bytes than seven go in one by one; more are begun, and folded on.
 use mathlib.Core.Path.{_∙_}
 use lib.ListN.{length}
 use denote.Ref.{now}
-use Rattle.crc.specs.Wide.{wide}
 use Rattle.crc.proofs.Blocks.{none-left}
 use borrow.Author.Needs.{needs}
 use Rattle.crc.proofs.digest_bytes.Statement.{statement}
 use Rattle.crc.proofs.digest_bytes.Tie as tie
 
-first-seven-requires : tie.Need-first-seven-requires
-first-seven-requires c κs = search needs
-
-rest-requires : tie.Need-rest-requires
-rest-requires c κs = search needs
+just-seven-requires : tie.Need-just-seven-requires
+just-seven-requires c κs = search needs
 
 returns : tie.Need-returns
-returns c =
-    let s = now (c .before .before .before .before .args .bytes) in
-    let f = c .before .first-seven in
-    c .rest .ensures ∙ none-left (wide 8 (f .result .x)) s 7 (search needs) ∙ f .ensures .0
+returns c = search needs
 
 front-requires : tie.Need-front-requires
 front-requires c κs = search needs
@@ -41,8 +34,7 @@ pub digest-bytes-spec : {M : Type 1} → statement M
 digest-bytes-spec =
     tie.close
     (tie.spec
-    first-seven-requires
-    rest-requires
+    just-seven-requires
     returns
     front-requires
     returns-2

@@ -137,18 +137,20 @@ fn eights(src: &[u8], dst: &mut [u8])
     put8(src, dst, last);
 }
 
-// Sixteen bytes and more: blocks of sixteen up to the last sixteen, and those.
+// Sixteen bytes and more: blocks of sixteen, of which the last ends where the bytes end. One call to `put16`: with two, the compiler no longer sees that dst is not
+// kept, and copies a frame that is handed out once more.
 fn sixteens(src: &[u8], dst: &mut [u8])
     requires { ⌜ (16 ≤ length (now src)) × (length (now src) ≤ length (now dst)) ⌝ }
     ensures { λ _. ⌜ now (dst .exit) ≡ laid (now (src .entry)) (now (dst .entry)) ⌝ }
 {
-    let last = src.len() - 16;
+    let n = src.len();
+    let last = n - 16;
     let mut i = 0;
-    while i < last {
-        put16(src, dst, i);
+    while i < n {
+        let at = if i < last { i } else { last };
+        put16(src, dst, at);
         i += 16;
     }
-    put16(src, dst, last);
 }
 
 // Copies all of src.

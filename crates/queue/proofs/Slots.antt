@@ -67,6 +67,13 @@ slot-next head cap k h hk = from-there head cap 1 k (suc k) h (omega arith) (ome
 pub slot-back : (head cap k : ℕ) → head < cap → suc k < cap → slotOf (slotOf head cap (cap - 1)) cap (suc k) ≡ slotOf head cap k
 slot-back head cap k h hk = from-there head cap (cap - 1) (suc k) k h (omega arith) hk (omega arith) (inr (omega arith))
 
+-- from the j-th place to the one before it, and to the one behind it
+pub to-before : (head cap i j p : ℕ) → head < cap → j < cap → i + 1 ≡ j → p ≡ slotOf head cap j → slotOf p cap (cap - 1) ≡ slotOf head cap i
+to-before head cap i j p h hj e ep = rw ep (from-there head cap j (cap - 1) i h hj (omega arith) (omega arith) (inr (omega arith)))
+
+pub to-behind : (head cap i j p : ℕ) → head < cap → i < cap → j + 1 ≡ i → p ≡ slotOf head cap j → slotOf p cap 1 ≡ slotOf head cap i
+to-behind head cap i j p h hi e ep = rw ep (from-there head cap j 1 i h (omega arith) (omega arith) hi (inl e))
+
 -- ---- lists by index
 
 pub tab-same : {A : Type 0} (n : ℕ) (f g : ℕ → A) → ((k : ℕ) → k < n → f k ≡ g k) → tab n f ≡ tab n g

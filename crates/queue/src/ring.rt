@@ -26,18 +26,19 @@ pub(crate) fn make_room(places: &mut [Place], head: usize, cap: usize, n: usize,
     requires { ⌜ (head < cap) × (n < cap) × (cap ≤ greatestCapacity) × (cap ≤ length (now places)) ⌝ }
     ensures { λ r. ⌜ Opened pushed head cap n id (now (places .entry)) (at head cap (now (places .entry))) (now (places .exit)) r ⌝ }
 {
+    let back = cap - 1;
+    let mut p = slot(head, cap, n);
     let mut j = n;
     while 0 < j {
-        let i = j - 1;
-        let q = slot(head, cap, i);
+        let q = slot(p, cap, back);
         let other = place::id_at(places, q);
         if other <= id {
             return j;
         }
-        let p = slot(head, cap, j);
         let moved = places[q];
         places[p] = moved;
-        j = i;
+        p = q;
+        j -= 1;
     }
     j
 }
@@ -47,18 +48,18 @@ pub(crate) fn draw_up(places: &mut [Place], head: usize, cap: usize, n: usize, i
     requires { ⌜ (head < cap) × (n < cap) × (cap ≤ greatestCapacity) × (cap ≤ length (now places)) ⌝ }
     ensures { λ r. ⌜ Opened returned head cap n id (now (places .entry)) (λ (k : ℕ). at head cap (now (places .entry)) (suc k)) (now (places .exit)) r ⌝ }
 {
+    let mut p = head;
     let mut j = 0;
     while j < n {
-        let i = j + 1;
-        let q = slot(head, cap, i);
+        let q = slot(p, cap, 1);
         let other = place::id_at(places, q);
         if id <= other {
             return j;
         }
-        let p = slot(head, cap, j);
         let moved = places[q];
         places[p] = moved;
-        j = i;
+        p = q;
+        j += 1;
     }
     j
 }

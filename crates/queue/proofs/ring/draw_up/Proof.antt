@@ -1,72 +1,83 @@
--- The search goes from the head on and moves each frame that is below the ID: these stand before the gap.
+-- The search goes from the head on and moves each frame that is below the ID: these stand before the gap, which is at p.
+use mathlib.Core.Path.{_≡_, sym, _∙_}
 use mathlib.Core.List.{[]}
 use lib.ListN.{getD}
 use Rattle.queue.specs.Place.{frameOf}
-use Prim.Native.Nat.{_-_, _≤_, _<_}
+use Rattle.queue.specs.Ring.{slotOf}
+use Prim.Native.Nat.{_+_, _-_, _≤_, _<_}
 use native.Mathlib.Omega.{arith}
+use Rattle.queue.proofs.Slots.{slot-below, slot-zero, to-behind}
 use Rattle.queue.proofs.Gaps.{Below, below-none, below-more, below-found, below-all}
 use borrow.Author.Needs.{needs}
 use Rattle.queue.proofs.ring.draw_up.Statement.{statement}
 use Rattle.queue.proofs.ring.draw_up.Tie as tie
 
 abbrev Inv-loop : tie.InvT-loop
-Inv-loop places₀ head cap n id j₀ places j = Below head cap n places₀ id places j
+Inv-loop places₀ head cap n id p₀ j₀ places p j = Below head cap n places₀ id places j × (p ≡ slotOf head cap j)
 
 abbrev μ-loop : tie.MeasureT-loop
-μ-loop places₀ head cap n id j₀ places j = n - j
+μ-loop places₀ head cap n id p₀ j₀ places p j = n - j
 
 loop-holds : tie.Need-loop-holds Inv-loop μ-loop
-loop-holds c = below-none _ _ _ _ (omega arith) (omega arith) _
+loop-holds c = (below-none _ _ _ _ (omega arith) (omega arith) _, sym (slot-zero _ _ (omega arith)))
 
-add-i : tie.Need-add-i Inv-loop μ-loop
-add-i c = search needs
+-- the gap is in the ring
+inside : (c : tie.At-loop Inv-loop μ-loop) → c .loop .p < c .before .args .cap
+inside c =
+    let a = c .before .args in
+    let i = c .loop .inv in
+    rw (i .1) (slot-below (a .head) (a .cap) (c .loop .j) (omega arith) (omega (arith, i .0 .gap .inside)))
 
 slot-requires : tie.Need-slot-requires Inv-loop μ-loop
-slot-requires c κs = omega arith
+slot-requires c κs = omega (arith, inside (c .before))
 
 id-at-requires : tie.Need-id-at-requires Inv-loop μ-loop
-id-at-requires c κs = omega (arith, c .before .slot .ensures .1, c .before .before .before .loop .inv .gap .as-many)
+id-at-requires c κs = omega (arith, c .before .slot .ensures .1, c .before .before .before .loop .inv .0 .gap .as-many)
 
 same-length : tie.Need-same-length Inv-loop μ-loop
-same-length c = c .before .before .before .before .before .loop .inv .gap .as-many
+same-length c = c .before .before .before .before .before .loop .inv .0 .gap .as-many
+
+-- the place that is looked at is the one behind the gap
+behind-it : (c : tie.After-slot Inv-loop μ-loop) → c .slot .result ≡ slotOf (c .before .before .before .args .head) (c .before .before .before .args .cap) (c .before .before .loop .j + 1)
+behind-it c = c .slot .ensures .0 ∙ to-behind _ _ _ _ _ (omega arith) (omega arith) (omega arith) (c .before .before .loop .inv .1)
 
 returns : tie.Need-returns Inv-loop μ-loop
 returns c =
     let s = c .before .before .before in
     let l = s .before .before in
     let at-most : l .before .args .id ≤ frameOf (getD (l .loop .places) (s .slot .result) []) .id = omega (arith, c .before .id-at .ensures, c .if1 .taken) in
-    below-found _ _ _ _ (omega arith) (omega arith) _ _ _ _ _ (omega arith) (s .before .loop-test .taken) (s .slot .ensures .0) (l .loop .inv) at-most
-
-slot-requires-2 : tie.Need-slot-requires-2 Inv-loop μ-loop
-slot-requires-2 c κs = omega (arith, c .before .before .before .before .before .loop .inv .gap .inside)
+    below-found _ _ _ _ (omega arith) (omega arith) _ _ _ _ _ (omega arith) (s .before .loop-test .taken) (behind-it s) (l .loop .inv .0) at-most
 
 mul-moved : tie.Need-mul-moved Inv-loop μ-loop
 mul-moved c = search needs
 
 slice-copy-out-moved : tie.Need-slice-copy-out-moved Inv-loop μ-loop
-slice-copy-out-moved c = omega (arith, c .before .before .before .before .slot .ensures .1, c .before .before .before .before .before .before .loop .inv .gap .as-many)
+slice-copy-out-moved c = omega (arith, c .before .before .before .slot .ensures .1, c .before .before .before .before .before .loop .inv .0 .gap .as-many)
 
 mul-moved-2 : tie.Need-mul-moved-2 Inv-loop μ-loop
-mul-moved-2 c = search needs
+mul-moved-2 c = omega (arith, inside (c .before .before .before .before .before .before))
 
 slice-set-from-moved : tie.Need-slice-set-from-moved Inv-loop μ-loop
-slice-set-from-moved c = omega (arith, c .before .slot2 .ensures .1, c .before .before .before .before .before .before .before .loop .inv .gap .as-many)
+slice-set-from-moved c = let l = c .before .before .before .before .before .before in omega (arith, inside l, l .loop .inv .0 .gap .as-many)
+
+add-j : tie.Need-add-j Inv-loop μ-loop
+add-j c = search needs
 
 loop-less : tie.Need-loop-less Inv-loop μ-loop
 loop-less c = search needs
 
 loop-again : tie.Need-loop-again Inv-loop μ-loop
 loop-again c =
-    let s = c .before .before .before .before .before in
+    let s = c .before .before .before .before in
     let l = s .before .before in
-    let past : frameOf (getD (l .loop .places) (s .slot .result) []) .id < l .before .args .id = omega (arith, c .before .before .before .id-at .ensures, c .before .before .if1 .left) in
-    below-more _ _ _ _ (omega arith) (omega arith) _ _ _ _ _ _ (omega arith) (s .before .loop-test .taken) (s .slot .ensures .0) (c .before .slot2 .ensures .0) (omega (arith, l .loop .inv .gap .as-many)) (l .loop .inv) past
+    let past : frameOf (getD (l .loop .places) (s .slot .result) []) .id < l .before .args .id = omega (arith, c .before .before .id-at .ensures, c .before .if1 .left) in
+    (below-more _ _ _ _ (omega arith) (omega arith) _ _ _ _ _ _ (omega arith) (s .before .loop-test .taken) (behind-it s) (l .loop .inv .1) (omega (arith, l .loop .inv .0 .gap .as-many)) (l .loop .inv .0) past, behind-it s)
 
 same-length-2 : tie.Need-same-length-2 Inv-loop μ-loop
-same-length-2 c = c .before .loop .inv .gap .as-many
+same-length-2 c = c .before .loop .inv .0 .gap .as-many
 
 returns-2 : tie.Need-returns-2 Inv-loop μ-loop
-returns-2 c = below-all _ _ _ _ (omega arith) (omega arith) _ _ _ (omega arith) (c .before .loop .inv)
+returns-2 c = below-all _ _ _ _ (omega arith) (omega arith) _ _ _ (omega arith) (c .before .loop .inv .0)
 
 pub draw-up-spec : {M : Type 1} → statement M
 draw-up-spec =
@@ -75,16 +86,15 @@ draw-up-spec =
     Inv-loop
     μ-loop
     loop-holds
-    add-i
     slot-requires
     id-at-requires
     same-length
     returns
-    slot-requires-2
     mul-moved
     slice-copy-out-moved
     mul-moved-2
     slice-set-from-moved
+    add-j
     loop-less
     loop-again
     same-length-2

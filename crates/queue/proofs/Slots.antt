@@ -7,7 +7,7 @@ use native.Mathlib.Omega.{arith}
 use borrow.Author.Tests.{ltb-true, ltb-false}
 use lib.Dec.{ltb}
 use lib.ListN.{length}
-use Rattle.queue.specs.Ring.{slotOf, tab}
+use Rattle.queue.specs.Ring.{slotOf, oneBack, tab}
 
 -- where the k-th place lies: before the ring's end, or past it and counted from its start
 abbrev Lies : ℕ → ℕ → ℕ → Type 0
@@ -64,11 +64,18 @@ pub slot-next : (head cap k : ℕ) → head < cap → suc k < cap → slotOf (sl
 slot-next head cap k h hk = from-there head cap 1 k (suc k) h (omega arith) (omega arith) hk (inl (omega arith))
 
 -- one place back
-pub slot-back : (head cap k : ℕ) → head < cap → suc k < cap → slotOf (slotOf head cap (cap - 1)) cap (suc k) ≡ slotOf head cap k
+pub slot-back : (head cap k : ℕ) → head < cap → suc k < cap → slotOf (oneBack head cap) cap (suc k) ≡ slotOf head cap k
 slot-back head cap k h hk = from-there head cap (cap - 1) (suc k) k h (omega arith) hk (omega arith) (inr (omega arith))
 
+-- where the place before p lies: before the first is the last
+pub before-first : (cap p : ℕ) → p < cap → p ≡ 0 → oneBack p cap ≡ cap - 1
+before-first cap p h e = ⊎-elim (λ w. omega arith) (λ w. omega arith) (lies p cap (cap - 1))
+
+pub before-other : (cap p : ℕ) → p < cap → 0 < p → oneBack p cap ≡ p - 1
+before-other cap p h w = ⊎-elim (λ v. omega arith) (λ v. omega arith) (lies p cap (cap - 1))
+
 -- from the j-th place to the one before it, and to the one behind it
-pub to-before : (head cap i j p : ℕ) → head < cap → j < cap → i + 1 ≡ j → p ≡ slotOf head cap j → slotOf p cap (cap - 1) ≡ slotOf head cap i
+pub to-before : (head cap i j p : ℕ) → head < cap → j < cap → i + 1 ≡ j → p ≡ slotOf head cap j → oneBack p cap ≡ slotOf head cap i
 to-before head cap i j p h hj e ep = rw ep (from-there head cap j (cap - 1) i h hj (omega arith) (omega arith) (inr (omega arith)))
 
 pub to-behind : (head cap i j p : ℕ) → head < cap → i < cap → j + 1 ≡ i → p ≡ slotOf head cap j → slotOf p cap 1 ≡ slotOf head cap i

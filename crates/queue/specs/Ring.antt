@@ -9,6 +9,10 @@ use lib.ListN.{getD}
 unfoldable pub slotOf : ℕ → ℕ → ℕ → ℕ
 slotOf head cap k = cond (ltb (head + k) cap) (head + k) (head + k - cap)
 
+-- the index of the place before that at index p
+abbrev pub oneBack : ℕ → ℕ → ℕ
+oneBack p cap = slotOf p cap (cap - 1)
+
 -- what stands in the k-th place
 abbrev pub at : ℕ → ℕ → List (List ℕ) → ℕ → List ℕ
 at head cap places k = getD places (slotOf head cap k) []

@@ -6,7 +6,7 @@ ghost use Prim.Native.Nat.{ℕ, suc, _≤_, _<_};
 ghost use lib.ListN.{length};
 ghost use Rattle.rules.specs.Limits.{greatestCapacity};
 ghost use Rattle.rules.specs.Queue.{pushed, returned};
-ghost use Rattle.queue.specs.Ring.{slotOf, at};
+ghost use Rattle.queue.specs.Ring.{slotOf, oneBack, at};
 ghost use Rattle.queue.specs.Room.{Opened};
 
 // The index of the k-th place from head on.
@@ -21,16 +21,26 @@ pub(crate) fn slot(head: usize, cap: usize, k: usize) -> usize
     p - cap
 }
 
+// The index of the place before p.
+pub(crate) fn one_back(p: usize, cap: usize) -> usize
+    requires { ⌜ p < cap ⌝ }
+    ensures { λ r. ⌜ (r ≡ oneBack p cap) × (r < cap) ⌝ }
+{
+    if p == 0 {
+        return cap - 1;
+    }
+    p - 1
+}
+
 // Moves the frames whose ID is above id one place further, from the last on, and returns which place is free then.
 pub(crate) fn make_room(places: &mut [Place], head: usize, cap: usize, n: usize, id: u32) -> usize
     requires { ⌜ (head < cap) × (n < cap) × (cap ≤ greatestCapacity) × (cap ≤ length (now places)) ⌝ }
     ensures { λ r. ⌜ Opened pushed head cap n id (now (places .entry)) (at head cap (now (places .entry))) (now (places .exit)) r ⌝ }
 {
-    let back = cap - 1;
     let mut p = slot(head, cap, n);
     let mut j = n;
     while 0 < j {
-        let q = slot(p, cap, back);
+        let q = one_back(p, cap);
         let other = place::id_at(places, q);
         if other <= id {
             return j;

@@ -13,13 +13,10 @@ use Rattle.queue.proofs.ring.make_room.Statement.{statement}
 use Rattle.queue.proofs.ring.make_room.Tie as tie
 
 abbrev Inv-loop : tie.InvT-loop
-Inv-loop places₀ head cap n id back p₀ j₀ places p j = Above head cap n places₀ id places j × (p ≡ slotOf head cap j)
+Inv-loop places₀ head cap n id p₀ j₀ places p j = Above head cap n places₀ id places j × (p ≡ slotOf head cap j)
 
 abbrev μ-loop : tie.MeasureT-loop
-μ-loop places₀ head cap n id back p₀ j₀ places p j = j
-
-sub-back : tie.Need-sub-back Inv-loop μ-loop
-sub-back c = search needs
+μ-loop places₀ head cap n id p₀ j₀ places p j = j
 
 slot-requires : tie.Need-slot-requires Inv-loop μ-loop
 slot-requires c κs = omega arith
@@ -34,34 +31,34 @@ inside c =
     let i = c .loop .inv in
     rw (i .1) (slot-below (a .head) (a .cap) (c .loop .j) (omega arith) (omega (arith, i .0 .gap .inside)))
 
-slot-requires-2 : tie.Need-slot-requires-2 Inv-loop μ-loop
-slot-requires-2 c κs = omega (arith, inside (c .before))
+one-back-requires : tie.Need-one-back-requires Inv-loop μ-loop
+one-back-requires c κs = omega (arith, inside (c .before))
 
 id-at-requires : tie.Need-id-at-requires Inv-loop μ-loop
-id-at-requires c κs = omega (arith, c .before .slot2 .ensures .1, c .before .before .before .loop .inv .0 .gap .as-many)
+id-at-requires c κs = omega (arith, c .before .one-back .ensures .1, c .before .before .before .loop .inv .0 .gap .as-many)
 
 same-length : tie.Need-same-length Inv-loop μ-loop
 same-length c = c .before .before .before .before .before .loop .inv .0 .gap .as-many
 
 -- the place that is looked at is the one before the gap
-before-it : (c : tie.After-slot2 Inv-loop μ-loop) →
-    c .slot2 .result ≡ slotOf (c .before .before .before .before .args .head) (c .before .before .before .before .args .cap) (c .before .before .loop .j - 1)
+before-it : (c : tie.After-one-back Inv-loop μ-loop) →
+    c .one-back .result ≡ slotOf (c .before .before .before .before .args .head) (c .before .before .before .before .args .cap) (c .before .before .loop .j - 1)
 before-it c =
     let l = c .before .before in
-    c .slot2 .ensures .0 ∙ to-before _ _ _ _ _ (omega arith) (omega (arith, l .loop .inv .0 .gap .inside)) (omega arith) (l .loop .inv .1)
+    c .one-back .ensures .0 ∙ to-before _ _ _ _ _ (omega arith) (omega (arith, l .loop .inv .0 .gap .inside)) (omega arith) (l .loop .inv .1)
 
 returns : tie.Need-returns Inv-loop μ-loop
 returns c =
     let s = c .before .before .before in
     let l = s .before .before in
-    let at-most : frameOf (getD (l .loop .places) (s .slot2 .result) []) .id ≤ l .before .before .args .id = omega (arith, c .before .id-at .ensures, c .if1 .taken) in
+    let at-most : frameOf (getD (l .loop .places) (s .one-back .result) []) .id ≤ l .before .before .args .id = omega (arith, c .before .id-at .ensures, c .if1 .taken) in
     above-found _ _ _ _ (omega arith) (omega arith) _ _ _ _ _ (omega arith) (before-it s) (l .loop .inv .0) at-most
 
 mul-moved : tie.Need-mul-moved Inv-loop μ-loop
 mul-moved c = search needs
 
 slice-copy-out-moved : tie.Need-slice-copy-out-moved Inv-loop μ-loop
-slice-copy-out-moved c = omega (arith, c .before .before .before .slot2 .ensures .1, c .before .before .before .before .before .loop .inv .0 .gap .as-many)
+slice-copy-out-moved c = omega (arith, c .before .before .before .one-back .ensures .1, c .before .before .before .before .before .loop .inv .0 .gap .as-many)
 
 mul-moved-2 : tie.Need-mul-moved-2 Inv-loop μ-loop
 mul-moved-2 c = omega (arith, inside (c .before .before .before .before .before .before))
@@ -79,7 +76,7 @@ loop-again : tie.Need-loop-again Inv-loop μ-loop
 loop-again c =
     let s = c .before .before .before .before in
     let l = s .before .before in
-    let past : l .before .before .args .id < frameOf (getD (l .loop .places) (s .slot2 .result) []) .id = omega (arith, c .before .before .id-at .ensures, c .before .if1 .left) in
+    let past : l .before .before .args .id < frameOf (getD (l .loop .places) (s .one-back .result) []) .id = omega (arith, c .before .before .id-at .ensures, c .before .if1 .left) in
     (above-more _ _ _ _ (omega arith) (omega arith) _ _ _ _ _ _ (omega arith) (before-it s) (l .loop .inv .1) (omega (arith, l .loop .inv .0 .gap .as-many)) (l .loop .inv .0) past, before-it s)
 
 same-length-2 : tie.Need-same-length-2 Inv-loop μ-loop
@@ -94,10 +91,9 @@ make-room-spec =
     (tie.spec
     Inv-loop
     μ-loop
-    sub-back
     slot-requires
     loop-holds
-    slot-requires-2
+    one-back-requires
     id-at-requires
     same-length
     returns

@@ -1,19 +1,19 @@
 -- A place that was filled with a frame says that frame, and what a place says is handed out with zeros behind it.
 use mathlib.Core.Path.{_≡_, refl, sym, ap, _∙_}
 use mathlib.Core.Bool.{Bool, true, false, cond, not}
-use mathlib.Core.List.{List, _++_, append-assoc}
+use mathlib.Core.List.{List, [], _∷_, _++_, append-nil}
 use mathlib.Core.Option.{some}
 use Prim.Native.Nat.{ℕ, _+_, _-_, _/_, _%_, _≤_, _<_, min}
 use native.Mathlib.Omega.{arith}
 use lib.Dec.{eqb}
-use lib.ListN.{length, getD, take, drop, replicate, length-take, length-drop}
-use lib.Seq.{getD-take, length-take-le, take-all, take-at, drop-at, take-append-seam}
+use lib.ListN.{length, getD, take, drop, replicate, length-drop, drop-of-length-le}
+use lib.Seq.{getD-take, length-take-le, take-all, drop-cons, take-append-seam}
 use borrow.Rule.Slice.PartMut.{putMid}
 use Rattle.laws.specs.Laid.{laid}
 use Rattle.rules.specs.Limits.{greatestFrame}
 use Rattle.rules.specs.Frames.{frame}
 use Rattle.rules.specs.declared.frame.Marks.{Marks}
-use Rattle.queue.specs.Place.{joined, headOf, frameOf, heldOf}
+use Rattle.queue.specs.Place.{joined, placeLength, headOf, frameOf, heldOf}
 use Rattle.queue.specs.declared.Held.{Held}
 
 -- the mark tells the loopback
@@ -37,23 +37,36 @@ framed marks bytes place e eb h =
     least : min (length bytes) greatestFrame ≡ length bytes
     least = omega arith
 
--- a place with its head, to which the bytes were copied
-pub filled : (marks : Marks) (bytes place copied : List ℕ) → length place ≡ 76 → take 12 place ≡ headOf marks (length bytes) → length bytes ≤ greatestFrame →
-    copied ≡ laid bytes (take 64 (drop 12 place)) → frameOf (putMid 12 64 place copied) ≡ frame marks bytes
-filled marks bytes place copied l e h ec =
-    framed marks bytes (putMid 12 64 place copied)
-    (take-at (take 12 place) _ 12 front ∙ e)
-    (ap (take (length bytes)) (drop-at (take 12 place) _ 12 front)
-    ∙ ap (λ (xs : List ℕ). take (length bytes) (xs ++ drop 64 (drop 12 place))) behind
-    ∙ ap (take (length bytes)) (append-assoc bytes _ _)
-    ∙ take-append-seam bytes _)
-    h
-  where
-    front : length (take 12 place) ≡ 12
-    front = length-take-le 12 place (omega arith)
+-- a list with its first twelve elements shown, as the stores of a head meet them
+pub twelve : (l : List ℕ) → 12 ≤ length l →
+    l ≡ getD l 0 0 ∷ getD l 1 0 ∷ getD l 2 0 ∷ getD l 3 0 ∷ getD l 4 0 ∷ getD l 5 0 ∷ getD l 6 0 ∷ getD l 7 0 ∷ getD l 8 0 ∷ getD l 9 0 ∷ getD l 10 0 ∷ getD l 11 0 ∷ drop 12 l
+twelve l h =
+    cc
+    (drop-cons l 0 0 (omega arith), drop-cons l 1 0 (omega arith), drop-cons l 2 0 (omega arith), drop-cons l 3 0 (omega arith), drop-cons l 4 0 (omega arith), drop-cons l 5 0 (omega arith), drop-cons l 6 0 (omega arith), drop-cons l 7 0 (omega arith), drop-cons l 8 0 (omega arith), drop-cons l 9 0 (omega arith), drop-cons l 10 0 (omega arith), drop-cons l 11 0 (omega arith))
 
-    behind : copied ≡ bytes ++ drop (length bytes) (take 64 (drop 12 place))
-    behind = ec ∙ ap (λ (xs : List ℕ). xs ++ drop (length bytes) (take 64 (drop 12 place))) (take-all (length (take 64 (drop 12 place))) bytes (simp (length-take, length-drop) (omega arith)))
+-- the bytes are copied behind the head
+pub begun : (marks : Marks) (count : ℕ) (bytes place headed copied : List ℕ) → length place ≡ placeLength → headed ≡ headOf marks count ++ drop 12 place →
+    copied ≡ laid bytes (take 64 (drop 12 headed)) → putMid 12 64 headed copied ≡ headOf marks count ++ laid bytes (drop 12 place)
+begun marks count bytes place headed copied l eh ec = rw (ec, eh) (rw (all, none) (ap (λ (xs : List ℕ). headOf marks count ++ xs) (append-nil _)))
+  where
+    long : length (drop 12 place) ≡ 64
+    long = omega (arith, length-drop 12 place)
+
+    all : take 64 (drop 12 place) ≡ drop 12 place
+    all = take-all 64 (drop 12 place) (omega (arith, long))
+
+    none : drop 64 (drop 12 place) ≡ []
+    none = drop-of-length-le (drop 12 place) {i = 64} (omega (arith, long))
+
+-- as much of the bytes as a place has room for is all of them
+laid-all : (bytes behind : List ℕ) → length behind ≡ 64 → length bytes ≤ greatestFrame → laid bytes behind ≡ bytes ++ drop (length bytes) behind
+laid-all bytes behind l h = ap (λ (xs : List ℕ). xs ++ drop (length bytes) behind) (take-all (length behind) bytes (omega arith))
+
+-- a place with its head and its frame's bytes
+pub filled : (marks : Marks) (bytes behind place : List ℕ) → length behind ≡ 64 → length bytes ≤ greatestFrame → place ≡ headOf marks (length bytes) ++ laid bytes behind →
+    frameOf place ≡ frame marks bytes
+filled marks bytes behind place l h e =
+    framed marks bytes place (ap (take 12) e) (ap (λ (xs : List ℕ). take (length bytes) (drop 12 xs)) e ∙ ap (take (length bytes)) (laid-all bytes behind l h) ∙ take-append-seam bytes _) h
 
 -- what is read of a place and copied from it
 pub fetched : (place bytes : List ℕ) (count id stamp : ℕ) → length place ≡ 76 →

@@ -17,17 +17,13 @@ use Rattle.rules.specs.declared.placing.Placing.the-variants.{Placed, Refused}
 use Rattle.queue.specs.Place.{frameOf}
 use Rattle.queue.specs.Ring.{slotOf, at, tab}
 use Rattle.queue.specs.Room.{Opened, insertedAt}
-use Rattle.queue.specs.Queue.{sound, frameAt, free, capacity-is, Put, Places}
+use Rattle.queue.specs.Queue.{sound, frameAt, free, capacity-is, grown, Put, Opens, Places}
 use Rattle.queue.specs.declared.ArrayQueue.{ArrayQueue}
 use Rattle.queue.specs.declared.Pushed.{Pushed}
-use Rattle.queue.proofs.Slots.{tab-same}
+use Rattle.queue.proofs.Slots.{slot-below, tab-same}
 use Rattle.queue.proofs.Insertion.{inserted-at-tab}
 use Rattle.queue.proofs.Gaps.{there, elsewhere}
 use Rattle.queue.proofs.State.{Sound, sound-of, contents-of, free-of}
-
--- the state with one more frame, in a ring that starts at head
-abbrev grown : ArrayQueue → ℕ → ArrayQueue
-grown q head = record { head = head; length = q .length + 1; capacity = q .capacity }
 
 module _ (put : Frame → List Frame → List Frame) (q : ArrayQueue) (places : List (List ℕ)) (filled : List ℕ) (head id : ℕ) (was : ℕ → List ℕ) (moved : List (List ℕ)) (j : ℕ)
     (s : Sound q (length places)) (spare : q .length < q .capacity) (hh : head < q .capacity)
@@ -53,11 +49,10 @@ module _ (put : Frame → List Frame → List Frame) (q : ArrayQueue) (places : 
       (ap frameOf (there head (q .capacity) (q .length) places hh spare moved filled j (omega (arith, o .gap .inside)) lent))
       (λ k h₁ h₂. ap frameOf (elsewhere head (q .capacity) (q .length) places hh spare moved filled (suc k) j (omega arith) (omega (arith, o .gap .inside)) (λ e. omega arith) ∙ o .gap .high k h₁ h₂))
 
-  pub put-at : (p : ℕ) → p ≡ slotOf head (q .capacity) j → Put put q places (frameOf filled) (record { head = head; length = q .length + 1; capacity = q .capacity }) (set moved p filled)
+  put-at : Put put q places (frameOf filled) (grown q head) after-it
   unfolding after-it
-  put-at p ep =
-      rw ep
-      (record {
+  put-at =
+      record {
         queued =
             contents-of (grown q head) after-it grown-sound
             ∙ ap (λ (n : ℕ). tab n (frameAt (grown q head) after-it)) more
@@ -66,10 +61,22 @@ module _ (put : Frame → List Frame → List Frame) (q : ArrayQueue) (places : 
             ∙ ap (put (frameOf filled)) (tab-same (q .length) (λ k. frameOf (was k)) (frameAt q places) (λ k h. ap frameOf (stood k h)) ∙ sym (contents-of q places (sound-of q _ s)));
         left = omega (arith, free-of q places (sound-of q _ s), free-of (grown q head) after-it grown-sound);
         capacity = capacity-is (grown q head) ∙ sym (capacity-is q);
-      })
+      }
     where
       more : q .length + 1 ≡ suc (q .length)
       more = omega arith
+
+-- the gap is where a frame of this ID is to be written
+pub opens : {put : Frame → List Frame → List Frame} {q : ArrayQueue} {places : List (List ℕ)} {head id : ℕ} {was : ℕ → List ℕ} {moved : List (List ℕ)} {j p : ℕ} →
+    Sound q (length places) → q .length < q .capacity → head < q .capacity → ((k : ℕ) → k < q .length → was k ≡ at (q .head) (q .capacity) places k) →
+    Opened put head (q .capacity) (q .length) id places was moved j → p ≡ slotOf head (q .capacity) j → Opens put q head id places moved p
+unfolding after-it
+opens {put} {q} {places} {head} {id} {was} {moved} {j} {p} s spare hh stood o ep =
+    record {
+      there = rw ep (omega (arith, slot-below head (q .capacity) j hh (omega (arith, o .gap .inside)), s .enough, o .gap .as-many));
+      as-many = o .gap .as-many;
+      takes = λ place e. rw ep (put-at put q places place head id was moved j s spare hh stood e o);
+    }
 
 -- ---- the answer
 
@@ -96,10 +103,12 @@ module _ (put : Frame → List Frame → List Frame) (q : ArrayQueue) (places : 
   pub refuses : (r : Refusal) → Refused r ≡ placed (free q places) f → Places put q places f (record { queue = q; answer = Refused r }) places
   refuses r e = record { answered = e; queued = refl; left = refl; capacity = refl; kept = (refl, refl) }
 
-  -- the frame as the filled place says it
-  pub places-it : (g : Frame) (q′ : ArrayQueue) (places′ : List (List ℕ)) → Placed ≡ placed (free q places) f → g ≡ f → Put put q places g q′ places′ →
-      Places put q places f (record { queue = q′; answer = Placed }) places′
-  places-it g q′ places′ e eg p = record { answered = e; queued = rw eg at (p .queued); left = omega (arith, p .left); capacity = p .capacity; kept = (refl, refl) }
+  -- the frame is written into the place that was opened for it
+  pub places-it : {head p : ℕ} {places′ : List (List ℕ)} (place : List ℕ) (q′ : ArrayQueue) → Placed ≡ placed (free q places) f → Opens put q head (f .id) places places′ p →
+      frameOf place ≡ f → q′ ≡ grown q head → Places put q places f (record { queue = q′; answer = Placed }) (set places′ p place)
+  places-it place q′ e o ef eq =
+      let w = o .takes place (ap (λ (g : Frame). g .id) ef) in
+      rw eq (record { answered = e; queued = rw ef at (w .queued); left = omega (arith, w .left); capacity = w .capacity; kept = (refl, refl) })
 
 -- for callers: a frame that fits is put among those queued, and one place fewer is free
 pub put-in : {put : Frame → List Frame → List Frame} {q : ArrayQueue} {places places′ : List (List ℕ)} {f : Frame} {r : Pushed} →

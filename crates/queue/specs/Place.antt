@@ -15,7 +15,10 @@ use Rattle.queue.specs.declared.Held.{Held}
 abbrev pub joined : ℕ → ℕ → ℕ → ℕ → ℕ
 joined a b c d = a + b * 256 + c * 65536 + d * 16777216
 
--- the number of bytes in front of those of the frame
+-- the number of bytes of a place, and of those in front of the frame's
+abbrev pub placeLength : ℕ
+placeLength = 76
+
 abbrev pub headLength : ℕ
 headLength = 12
 

@@ -3,9 +3,9 @@
 use mathlib.Core.Path.{_≡_, refl}
 use mathlib.Core.Bool.{Bool, cond, _&&_}
 use mathlib.Core.List.{List, []}
-use Prim.Native.Nat.{ℕ, suc, _-_}
+use Prim.Native.Nat.{ℕ, suc, _+_, _-_, _<_}
 use lib.Dec.{ltb, leb}
-use lib.ListN.{length}
+use lib.ListN.{length, set}
 use Rattle.rules.specs.Limits.{greatestCapacity}
 use Rattle.rules.specs.Frames.{Frame}
 use Rattle.rules.specs.Queue.{first, rest, placed, after}
@@ -87,3 +87,15 @@ pub record Pops (q : ArrayQueue) (places : List (List ℕ)) (r : Popped) : Type 
   pub left : free (r .queue) places ≡ cond (r .held .found) (suc (free q places)) (free q places)
   pub capacity : capacityOf (r .queue) ≡ capacityOf q
   pub kept : r .queue ≡ cond (r .held .found) (r .queue) q
+
+-- ---- what the functions of this crate promise each other
+
+-- the state with one more frame, in a ring that starts at head
+abbrev pub grown : ArrayQueue → ℕ → ArrayQueue
+grown q head = record { head = head; length = q .length + 1; capacity = q .capacity }
+
+-- the place at index p is free now, and a frame of this ID that is written there is put among those queued, in a ring that starts at head
+pub record Opens (put : Frame → List Frame → List Frame) (q : ArrayQueue) (head id : ℕ) (places places′ : List (List ℕ)) (p : ℕ) : Type 0 where
+  pub there : p < length places′
+  pub as-many : length places′ ≡ length places
+  pub takes : (place : List ℕ) → frameOf place .id ≡ id → Put put q places (frameOf place) (grown q head) (set places′ p place)

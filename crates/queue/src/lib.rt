@@ -8,13 +8,16 @@ use rules::frame::Marks;
 use rules::placing::Placing;
 use rules::refusal::Refusal;
 ghost use mathlib.Core.Path.{_≡_};
-ghost use Prim.Native.Nat.{_<_};
+ghost use mathlib.Core.List.{List};
+ghost use Prim.Native.Nat.{ℕ, _<_};
 ghost use lib.Dec.{eqb};
 ghost use lib.ListN.{length};
+ghost use Rattle.rules.specs.Limits.{greatestCapacity};
 ghost use Rattle.rules.specs.Frames.{frame};
 ghost use Rattle.rules.specs.Queue.{pushed, returned, first, roomFor, placed};
-ghost use Rattle.queue.specs.Place.{frameOf, heldOf};
-ghost use Rattle.queue.specs.Queue.{sound, contents, free, capacityOf, made, Put, Places, Pops};
+ghost use Rattle.queue.specs.Place.{heldOf};
+ghost use Rattle.queue.specs.Ring.{oneBack};
+ghost use Rattle.queue.specs.Queue.{sound, contents, free, capacityOf, made, grown, Opens, Places, Pops};
 
 mod place;
 mod ring;
@@ -112,15 +115,18 @@ impl ArrayQueue {
     pub fn push_frame(self, places: &mut [Place], marks: Marks, bytes: &[u8]) -> Pushed
         ensures { λ r. ⌜ Places pushed self (now (places .entry)) (frame marks (now (bytes .entry))) r (now (places .exit)) ⌝ }
     {
-        match self.judge(places, marks, bytes) {
+        let count = bytes.len();
+        match self.judge(places, marks, count) {
             Placing::Refused(refusal) => Pushed {
                 queue: self,
                 answer: Placing::Refused(refusal),
             },
             Placing::Placed => {
-                let filled = place::packed(marks, bytes);
                 let id = marks.id;
-                let queue = self.put_behind(places, id, filled);
+                let p = self.open_behind(places, id);
+                place::fill(&mut places[p], marks, bytes);
+                let head = self.head;
+                let queue = self.grown(head);
                 Pushed {
                     queue,
                     answer: Placing::Placed,
@@ -137,8 +143,7 @@ impl ArrayQueue {
             return place::nothing();
         }
         let first = self.head;
-        let filled = places[first];
-        place::held(filled)
+        place::held(&places[first])
     }
 
     // Takes the frame that leaves next out of the queue; its place is free at once. An empty queue is unchanged.
@@ -167,15 +172,19 @@ impl ArrayQueue {
     pub fn return_frame(self, places: &mut [Place], marks: Marks, bytes: &[u8]) -> Pushed
         ensures { λ r. ⌜ Places returned self (now (places .entry)) (frame marks (now (bytes .entry))) r (now (places .exit)) ⌝ }
     {
-        match self.judge(places, marks, bytes) {
+        let count = bytes.len();
+        match self.judge(places, marks, count) {
             Placing::Refused(refusal) => Pushed {
                 queue: self,
                 answer: Placing::Refused(refusal),
             },
             Placing::Placed => {
-                let filled = place::packed(marks, bytes);
                 let id = marks.id;
-                let queue = self.put_before(places, id, filled);
+                let cap = self.capacity;
+                let front = ring::one_back(self.head, cap);
+                let p = self.open_before(places, front, id);
+                place::fill(&mut places[p], marks, bytes);
+                let queue = self.grown(front);
                 Pushed {
                     queue,
                     answer: Placing::Placed,
@@ -213,11 +222,11 @@ impl ArrayQueue {
         0
     }
 
-    // Whether a frame is placed: refusals 3, 1, 13 in this order.
-    fn judge(self, places: &[Place], marks: Marks, bytes: &[u8]) -> Placing
-        ensures { λ r. ⌜ r ≡ placed (free self (now (places .entry))) (frame marks (now (bytes .entry))) ⌝ }
+    // Whether a frame with so many bytes is placed: refusals 3, 1, 13 in this order.
+    fn judge(self, places: &[Place], marks: Marks, count: usize) -> Placing
+        ensures { λ r. ⌜ ((bytes : List ℕ) → length bytes ≡ count → r ≡ placed (free self (now (places .entry))) (frame marks bytes)) ⌝ }
     {
-        let short = bytes.len() <= FRAME_CAPACITY;
+        let short = count <= FRAME_CAPACITY;
         let id = CanId(marks.id);
         let valid = id.is_valid();
         if !short {
@@ -229,42 +238,39 @@ impl ArrayQueue {
         self.try_reserve(places, 1)
     }
 
-    // Puts a filled place behind those whose ID is not above its own.
-    fn put_behind(self, places: &mut [Place], id: u32, filled: Place) -> Self
-        requires { ⌜ (0 < free self (now places)) × (frameOf filled .id ≡ id) ⌝ }
-        ensures { λ r. ⌜ Put pushed self (now (places .entry)) (frameOf filled) r (now (places .exit)) ⌝ }
+    // Makes a place free behind the frames whose ID is not above this one, and returns its index.
+    fn open_behind(self, places: &mut [Place], id: u32) -> usize
+        requires { ⌜ 0 < free self (now places) ⌝ }
+        ensures { λ r. ⌜ Opens pushed self (self .head) id (now (places .entry)) (now (places .exit)) r ⌝ }
     {
         let head = self.head;
         let cap = self.capacity;
         let n = self.length;
         let j = ring::make_room(places, head, cap, n, id);
-        let p = ring::slot(head, cap, j);
-        places[p] = filled;
-        let more = n + 1;
-        ArrayQueue {
-            head,
-            length: more,
-            capacity: cap,
-        }
+        ring::slot(head, cap, j)
     }
 
-    // Puts a filled place in front of those whose ID is not below its own. The head goes one place back.
-    fn put_before(self, places: &mut [Place], id: u32, filled: Place) -> Self
-        requires { ⌜ (0 < free self (now places)) × (frameOf filled .id ≡ id) ⌝ }
-        ensures { λ r. ⌜ Put returned self (now (places .entry)) (frameOf filled) r (now (places .exit)) ⌝ }
+    // Makes a place free in front of the frames whose ID is not below this one, in a ring that starts one place back, and returns its index.
+    fn open_before(self, places: &mut [Place], head: usize, id: u32) -> usize
+        requires { ⌜ (0 < free self (now places)) × (head ≡ oneBack (self .head) (self .capacity)) ⌝ }
+        ensures { λ r. ⌜ Opens returned self head id (now (places .entry)) (now (places .exit)) r ⌝ }
     {
         let cap = self.capacity;
         let n = self.length;
-        let back = cap - 1;
-        let head = ring::slot(self.head, cap, back);
         let j = ring::draw_up(places, head, cap, n, id);
-        let p = ring::slot(head, cap, j);
-        places[p] = filled;
-        let more = n + 1;
+        ring::slot(head, cap, j)
+    }
+
+    // The state with one more frame, in a ring that starts at head.
+    fn grown(self, head: usize) -> Self
+        requires { ⌜ self .length < greatestCapacity ⌝ }
+        ensures { λ r. ⌜ r ≡ grown self head ⌝ }
+    {
+        let more = self.length + 1;
         ArrayQueue {
             head,
             length: more,
-            capacity: cap,
+            capacity: self.capacity,
         }
     }
 }

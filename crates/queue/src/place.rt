@@ -7,13 +7,14 @@ use rules::data::FRAME_CAPACITY;
 use rules::frame::Marks;
 ghost use mathlib.Core.Path.{_≡_};
 ghost use mathlib.Core.Bool.{cond};
-ghost use mathlib.Core.List.{[]};
+ghost use mathlib.Core.List.{[], _++_};
 ghost use mathlib.Core.Option.{none, some};
 ghost use Prim.Native.Nat.{_≤_, _<_, min};
-ghost use lib.ListN.{length, getD, take};
+ghost use lib.ListN.{length, getD, drop};
+ghost use Rattle.laws.specs.Laid.{laid};
 ghost use Rattle.rules.specs.Limits.{greatestFrame};
 ghost use Rattle.rules.specs.Frames.{frame};
-ghost use Rattle.queue.specs.Place.{joined, headLength, headOf, frameOf, heldOf};
+ghost use Rattle.queue.specs.Place.{joined, placeLength, headLength, headOf, frameOf, heldOf};
 
 // The number of bytes in front of those of the frame.
 const HEAD: usize = 12;
@@ -39,15 +40,15 @@ fn mark_of(loopback: bool) -> u8
     if loopback { 1 } else { 0 }
 }
 
-// A place with all but the frame's bytes.
-fn headed(marks: Marks, count: u8) -> Place
-    ensures { λ r. ⌜ take headLength r ≡ headOf marks count ⌝ }
+// Writes all but the frame's bytes.
+fn write_head(place: &mut [u8], marks: Marks, count: u8)
+    requires { ⌜ length (now place) ≡ placeLength ⌝ }
+    ensures { λ _. ⌜ now (place .exit) ≡ headOf marks count ++ drop headLength (now (place .entry)) ⌝ }
 {
     let id = marks.id;
     let stamp = marks.stamp;
     let loopback = marks.loopback;
     let mark = mark_of(loopback);
-    let mut place = [0u8; PLACE];
     place[0] = (id % 256) as u8;
     place[1] = (id / 256 % 256) as u8;
     place[2] = (id / 65536 % 256) as u8;
@@ -58,18 +59,26 @@ fn headed(marks: Marks, count: u8) -> Place
     place[7] = (stamp / 16777216) as u8;
     place[8] = mark;
     place[9] = count;
-    place
+    place[10] = 0;
+    place[11] = 0;
 }
 
-// A place with the frame.
-pub(crate) fn packed(marks: Marks, bytes: &[u8]) -> Place
-    requires { ⌜ length (now bytes) ≤ greatestFrame ⌝ }
-    ensures { λ r. ⌜ frameOf r ≡ frame marks (now (bytes .entry)) ⌝ }
+// Writes the head of a frame with so many bytes, and the first of them.
+fn begin(place: &mut [u8], marks: Marks, count: u8, bytes: &[u8])
+    requires { ⌜ length (now place) ≡ placeLength ⌝ }
+    ensures { λ _. ⌜ now (place .exit) ≡ headOf marks count ++ laid (now (bytes .entry)) (drop headLength (now (place .entry))) ⌝ }
+{
+    write_head(place, marks, count);
+    blocks::copy(bytes, &mut place[HEAD..PLACE]);
+}
+
+// Writes the frame into the place.
+pub(crate) fn fill(place: &mut [u8], marks: Marks, bytes: &[u8])
+    requires { ⌜ (length (now place) ≡ placeLength) × (length (now bytes) ≤ greatestFrame) ⌝ }
+    ensures { λ _. ⌜ frameOf (now (place .exit)) ≡ frame marks (now (bytes .entry)) ⌝ }
 {
     let count = bytes.len() as u8;
-    let mut place = headed(marks, count);
-    blocks::copy(bytes, &mut place[HEAD..PLACE]);
-    place
+    begin(place, marks, count, bytes);
 }
 
 // No place says more bytes than a frame can have.
@@ -84,8 +93,9 @@ fn within(stated: u8) -> usize
 }
 
 // The frame of a place. Behind its bytes are zeros.
-pub(crate) fn held(place: Place) -> Held
-    ensures { λ r. ⌜ r ≡ heldOf (some (frameOf place)) ⌝ }
+pub(crate) fn held(place: &[u8]) -> Held
+    requires { ⌜ length (now place) ≡ placeLength ⌝ }
+    ensures { λ r. ⌜ r ≡ heldOf (some (frameOf (now (place .entry)))) ⌝ }
 {
     let id = join(place[0], place[1], place[2], place[3]);
     let stamp = join(place[4], place[5], place[6], place[7]);

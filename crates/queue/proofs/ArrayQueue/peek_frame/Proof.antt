@@ -23,17 +23,17 @@ returns c = c .nothing .ensures ∙ at-none _ _ (sym (c .before .before .is-empt
 queued : (c : tie.Else1) → Sound (c .before .before .args .self) (length (now (c .before .before .args .places))) × (0 < c .before .before .args .self .length)
 queued c = with-frames (c .before .before .args .self) (now (c .before .before .args .places)) (sym (c .before .is-empty .ensures) ∙ c .if1 .left)
 
-mul-filled : tie.Need-mul-filled
-mul-filled c = let s = queued c .0 in omega (arith, s .head, s .small)
+mul-held : tie.Need-mul-held
+mul-held c = let s = queued c .0 in omega (arith, s .head, s .small)
 
-shared-slice-copy-out-filled : tie.Need-shared-slice-copy-out-filled
-shared-slice-copy-out-filled c = let s = queued c .0 in omega (arith, s .head, s .enough)
+shared-slice-element-held : tie.Need-shared-slice-element-held
+shared-slice-element-held c = let s = queued c .0 in omega (arith, s .head, s .enough)
 
 held-requires : tie.Need-held-requires
 held-requires c κs = search needs
 
 returns-2 : tie.Need-returns-2
-returns-2 c = let s = queued (c .before .before) in c .held .ensures ∙ at-head _ _ (s .0) (s .1)
+returns-2 c = let s = queued (c .before .before .before) in c .held .ensures ∙ at-head _ _ (s .0) (s .1)
 
 pub peek-frame-spec : {M : Type 1} → statement M
 peek-frame-spec =
@@ -42,7 +42,7 @@ peek-frame-spec =
     is-empty-requires
     nothing-requires
     returns
-    mul-filled
-    shared-slice-copy-out-filled
+    mul-held
+    shared-slice-element-held
     held-requires
     returns-2)

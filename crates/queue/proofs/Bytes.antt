@@ -3,15 +3,16 @@ use mathlib.Core.Path.{_≡_, refl, sym, ap, _∙_}
 use mathlib.Core.Bool.{Bool, true, false, cond, not}
 use mathlib.Core.List.{List, [], _∷_, _++_, append-nil}
 use mathlib.Core.Option.{some}
-use Prim.Native.Nat.{ℕ, _+_, _-_, _/_, _%_, _≤_, _<_, min}
+use Prim.Native.Nat.{ℕ, suc, _+_, _-_, _/_, _%_, _≤_, _<_, min}
 use native.Mathlib.Omega.{arith}
 use lib.Dec.{eqb}
-use lib.ListN.{length, getD, take, drop, replicate, length-drop, drop-of-length-le}
-use lib.Seq.{getD-take, length-take-le, take-all, drop-cons, take-append-seam}
+use lib.ListN.{length, getD, set, take, drop, replicate, length-append, length-drop, drop-of-length-le}
+use lib.Seq.{getD-take, length-take-le, take-all, drop-cons, append-snoc, take-append-seam, set-append-seam, take-set-le, drop-set-add}
 use borrow.Rule.Slice.PartMut.{putMid}
 use Rattle.laws.specs.Laid.{laid}
 use Rattle.rules.specs.Limits.{greatestFrame}
 use Rattle.rules.specs.Frames.{frame}
+use Rattle.rules.specs.Transfer.{tailed}
 use Rattle.rules.specs.declared.frame.Marks.{Marks}
 use Rattle.queue.specs.Place.{joined, placeLength, headOf, frameOf, heldOf}
 use Rattle.queue.specs.declared.Held.{Held}
@@ -67,6 +68,26 @@ pub filled : (marks : Marks) (bytes behind place : List ℕ) → length behind �
     frameOf place ≡ frame marks bytes
 filled marks bytes behind place l h e =
     framed marks bytes place (ap (take 12) e) (ap (λ (xs : List ℕ). take (length bytes) (drop 12 xs)) e ∙ ap (take (length bytes)) (laid-all bytes behind l h) ∙ take-append-seam bytes _) h
+
+-- and one whose last byte is written by itself
+pub filled-tailed : (marks : Marks) (part behind place : List ℕ) (tail : ℕ) → length behind ≡ 64 → length part < greatestFrame → place ≡ headOf marks (length part + 1) ++ laid part behind →
+    frameOf (set place (12 + length part) tail) ≡ frame marks (tailed part tail)
+filled-tailed marks part behind place tail l h e =
+    framed marks (tailed part tail) (set place (12 + length part) tail)
+    (take-set-le 12 place (12 + length part) tail (omega arith) ∙ ap (take 12) e ∙ ap (headOf marks) (sym more))
+    (ap (take (length (tailed part tail))) written ∙ take-append-seam (tailed part tail) (drop (suc (length part)) behind))
+    (omega (arith, more))
+  where
+    more : length (tailed part tail) ≡ length part + 1
+    more = length-append part (tail ∷ [])
+
+    written : drop 12 (set place (12 + length part) tail) ≡ tailed part tail ++ drop (suc (length part)) behind
+    written =
+        drop-set-add 12 place (length part) tail
+        ∙ ap (λ (xs : List ℕ). set (drop 12 xs) (length part) tail) e
+        ∙ ap (λ (xs : List ℕ). set xs (length part) tail) (laid-all part behind l (omega arith) ∙ ap (λ (xs : List ℕ). part ++ xs) (drop-cons behind (length part) 0 (omega arith)))
+        ∙ set-append-seam part _ _ tail
+        ∙ sym (append-snoc part tail _)
 
 -- what is read of a place and copied from it
 pub fetched : (place bytes : List ℕ) (count id stamp : ℕ) → length place ≡ 76 →

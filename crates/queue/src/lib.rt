@@ -14,6 +14,7 @@ ghost use lib.Dec.{eqb};
 ghost use lib.ListN.{length};
 ghost use Rattle.rules.specs.Limits.{greatestCapacity};
 ghost use Rattle.rules.specs.Frames.{frame};
+ghost use Rattle.rules.specs.Transfer.{tailed};
 ghost use Rattle.rules.specs.Queue.{pushed, returned, first, roomFor, placed};
 ghost use Rattle.queue.specs.Place.{heldOf};
 ghost use Rattle.queue.specs.Ring.{oneBack};
@@ -125,6 +126,30 @@ impl ArrayQueue {
                 let id = marks.id;
                 let p = self.open_behind(places, id);
                 place::fill(&mut places[p], marks, bytes);
+                let head = self.head;
+                let queue = self.grown(head);
+                Pushed {
+                    queue,
+                    answer: Placing::Placed,
+                }
+            }
+        }
+    }
+
+    // As push_frame, for a frame in two pieces: a part of a transfer, and the tail byte behind it.
+    pub fn push_tailed(self, places: &mut [Place], marks: Marks, part: &[u8], tail: u8) -> Pushed
+        ensures { λ r. ⌜ Places pushed self (now (places .entry)) (frame marks (tailed (now (part .entry)) tail)) r (now (places .exit)) ⌝ }
+    {
+        let count = part.len() + 1;
+        match self.judge(places, marks, count) {
+            Placing::Refused(refusal) => Pushed {
+                queue: self,
+                answer: Placing::Refused(refusal),
+            },
+            Placing::Placed => {
+                let id = marks.id;
+                let p = self.open_behind(places, id);
+                place::fill_tailed(&mut places[p], marks, part, tail);
                 let head = self.head;
                 let queue = self.grown(head);
                 Pushed {

@@ -14,6 +14,7 @@ ghost use lib.ListN.{length, getD, drop};
 ghost use Rattle.laws.specs.Laid.{laid};
 ghost use Rattle.rules.specs.Limits.{greatestFrame};
 ghost use Rattle.rules.specs.Frames.{frame};
+ghost use Rattle.rules.specs.Transfer.{tailed};
 ghost use Rattle.queue.specs.Place.{joined, placeLength, headLength, headOf, frameOf, heldOf};
 
 // The number of bytes in front of those of the frame.
@@ -79,6 +80,18 @@ pub(crate) fn fill(place: &mut [u8], marks: Marks, bytes: &[u8])
 {
     let count = bytes.len() as u8;
     begin(place, marks, count, bytes);
+}
+
+// Writes the frame of a part and its tail byte into the place.
+pub(crate) fn fill_tailed(place: &mut [u8], marks: Marks, part: &[u8], tail: u8)
+    requires { ⌜ (length (now place) ≡ placeLength) × (length (now part) < greatestFrame) ⌝ }
+    ensures { λ _. ⌜ frameOf (now (place .exit)) ≡ frame marks (tailed (now (part .entry)) tail) ⌝ }
+{
+    let n = part.len();
+    let count = (n + 1) as u8;
+    begin(place, marks, count, part);
+    let end = HEAD + n;
+    place[end] = tail;
 }
 
 // No place says more bytes than a frame can have.

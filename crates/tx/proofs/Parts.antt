@@ -1,26 +1,18 @@
 -- Lists of bytes in an array of zeros: a part laid at the front, zeros behind it, two bytes set behind those.
 use mathlib.Core.Path.{_≡_, refl, sym, ap, _∙_}
 use mathlib.Core.List.{List, [], _∷_, _++_, append-assoc}
-use Prim.Native.Nat.{ℕ, zero, suc, _+_, _-_, _≤_, _<_}
+use Prim.Native.Nat.{ℕ, zero, suc, _+_, _-_, _≤_}
 use native.Mathlib.Nat.{sub-zero, zero-sub, suc-sub-suc}
-use native.Mathlib.Numerals.{add-one}
 use native.Mathlib.Omega.{arith}
-use lib.ListN.{length, set, take, drop, replicate, length-append, length-replicate, length-drop, replicate-append-replicate}
-use lib.Seq.{take-suc-set, take-at, set-at, append-snoc, take-all}
+use lib.ListN.{length, set, take, drop, replicate, length-append, length-replicate, replicate-append-replicate}
+use lib.Seq.{take-at, set-at, append-snoc, take-all}
 use Rattle.laws.specs.Laid.{laid}
 use Rattle.rules.specs.Crc.{crcFrom, crcBytes}
-use Rattle.rules.specs.Transfer.{padded, withCrc, tailed}
+use Rattle.rules.specs.Transfer.{padded, withCrc}
 
 -- a list that fits is laid whole
 laid-whole : (s d : List ℕ) → length s ≤ length d → laid s d ≡ s ++ drop (length s) d
 laid-whole s d h = ap (λ (l : List ℕ). l ++ drop (length s) d) (take-all (length d) s h)
-
--- a byte set behind it
-pub laid-tailed : (s d : List ℕ) (t : ℕ) → length s < length d → take (length s + 1) (set (laid s d) (length s) t) ≡ tailed s t
-laid-tailed s d t h =
-    let e = laid-whole s d (omega arith) in
-    let l : length s < length (s ++ drop (length s) d) = omega (arith, length-append s (drop (length s) d), length-drop (length s) d) in
-    rw (e, add-one (length s), take-suc-set (s ++ drop (length s) d) (length s) t l, take-at s (drop (length s) d) (length s) refl) refl
 
 -- n zeros
 abbrev pub zeros : ℕ → List ℕ

@@ -1,20 +1,9 @@
-// The bytes of a frame, after tx/breakdown.rs.
+// The bytes of the last frames, after tx/breakdown.rs.
 ghost use mathlib.Core.Path.{_≡_};
 ghost use mathlib.Core.List.{_++_};
 ghost use Prim.Native.Nat.{_+_, _-_, _≤_};
-ghost use lib.ListN.{length, take, replicate};
-ghost use Rattle.rules.specs.Transfer.{padded, withCrc, tailed};
-
-// A part of what a transfer carries, and the tail byte behind it.
-pub(crate) fn frame_of(part: &[u8], tail: u8) -> [u8; 64]
-    requires { ⌜ length (now part) ≤ 63 ⌝ }
-    ensures { λ r. ⌜ take (length (now (part .entry)) + 1) r ≡ tailed (now (part .entry)) tail ⌝ }
-{
-    let mut frame = [0u8; 64];
-    let n = blocks::copy(part, &mut frame);
-    frame[n] = tail;
-    frame
-}
+ghost use lib.ListN.{length, replicate};
+ghost use Rattle.rules.specs.Transfer.{padded, withCrc};
 
 // The last bytes of a payload with zeros behind them, as many as there is room for.
 pub(crate) fn padded_part(part: &[u8]) -> [u8; 128]

@@ -138,9 +138,7 @@ fn one(
     requires { ⌜ (length (now part) ≤ 63) × (marks .id ≤ greatestCanId) × (0 < free queue (now places)) ⌝ }
     ensures { λ r. ⌜ Puts marks (tailed (now (part .entry)) (tailByte start end toggle (id .0)) ∷ []) queue (now (places .entry)) r (now (places .exit)) ⌝ }
 {
-    let n = part.len() + 1;
     let tail = wire::breakdown::make_tail_byte(start, end, toggle, id);
-    let frame = breakdown::frame_of(part, tail);
-    let pushed = queue.push_frame(places, marks, &frame[..n]);
+    let pushed = queue.push_tailed(places, marks, part, tail);
     pushed.queue
 }

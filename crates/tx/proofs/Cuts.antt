@@ -1,12 +1,12 @@
--- How a transfer is cut: a frame full of payload leaves the same transfer from there on, with the register that it left; and when one frame or two are left.
-use mathlib.Core.Path.{_≡_, refl, sym, ap, ap₂, _∙_}
+-- How a transfer is cut: padding and CRC stand behind the payload, so that a frame full of payload leaves the rest of both; and when one frame or two are left.
+use mathlib.Core.Path.{_≡_, refl, ap, ap₂, _∙_}
 use mathlib.Core.Bool.{Bool, true, false, not}
 use mathlib.Core.List.{List, [], _∷_, _++_, append-assoc}
 use Prim.Native.Nat.{ℕ, zero, suc, _+_, _-_, _*_, _≤_, _<_}
 use native.Mathlib.Nat.{suc-mul, zero-mul, one-mul}
 use native.Mathlib.Omega.{arith}
-use lib.ListN.{length, take, drop, take-append-drop}
-use lib.Seq.{take-append-le, drop-append-le}
+use lib.ListN.{length, take, drop}
+use lib.Seq.{take-append-le, drop-append-le, drop-drop}
 use borrow.Author.Tests.{lt-leb}
 use Rattle.rules.specs.declared.data.Mtu.{Mtu}
 use Rattle.rules.specs.Limits.{roomOf}
@@ -18,26 +18,19 @@ use Rattle.rules.proofs.Crc.{from-append}
 use Rattle.rules.proofs.Plan.{size-bounds, alone, several, needed, last-frame, padding-small}
 use Rattle.rules.proofs.Transfer.{carried-alone, carried-several}
 use Rattle.tx.specs.Fits.{Fits, Last, Several}
-use Rattle.tx.proofs.Parts.{zeros, length-padded}
+use Rattle.tx.proofs.Parts.{zeros}
 
 -- ---- a frame that is full of payload
 
-crc-parts : (c m n : ℕ) (ys : List ℕ) → crcFrom c (padded n ys) ≡ crcFrom (crcFrom c (take m ys)) (padded n (drop m ys))
-crc-parts c m n ys =
-    ap (λ (l : List ℕ). crcFrom c (l ++ zeros n)) (sym (take-append-drop m ys)) ∙ ap (crcFrom c) (append-assoc (take m ys) (drop m ys) (zeros n))
-    ∙ from-append c (take m ys) (padded n (drop m ys))
+-- padding and CRC stand behind the payload, and the register of both starts from that of the payload
+pub crc-behind : (c n : ℕ) (ys : List ℕ) → withCrc c (padded n ys) ≡ ys ++ withCrc (crcFrom c ys) (zeros n)
+crc-behind c n ys = append-assoc ys (zeros n) (crcBytes (crcFrom c (padded n ys))) ∙ ap (λ (x : ℕ). ys ++ (zeros n ++ crcBytes x)) (from-append c ys (zeros n))
 
-pub cut-on : (m id : ℕ) (start toggle : Bool) (n c k : ℕ) (ys : List ℕ) → m ≤ length ys
-    → cut m id start toggle (suc n) (withCrc c (padded k ys))
-    ≡ tailed (take m ys) (tailByte start false toggle id) ∷ cut m id false (not toggle) n (withCrc (crcFrom c (take m ys)) (padded k (drop m ys)))
-cut-on m id start toggle n c k ys h =
-    let z = crcBytes (crcFrom c (padded k ys)) in
-    let l : m ≤ length (padded k ys) = omega (arith, length-padded ys k) in
-    let a : take m (withCrc c (padded k ys)) ≡ take m ys = take-append-le m (padded k ys) z l ∙ take-append-le m ys (zeros k) h in
-    let b : drop m (withCrc c (padded k ys)) ≡ withCrc (crcFrom c (take m ys)) (padded k (drop m ys)) =
-    drop-append-le m (padded k ys) z l ∙ ap (λ (x : List ℕ). x ++ z) (drop-append-le m ys (zeros k) h)
-    ∙ ap (λ (x : ℕ). padded k (drop m ys) ++ crcBytes x) (crc-parts c m k ys) in
-    ap₂ (λ (x y : List ℕ). tailed x (tailByte start false toggle id) ∷ cut m id false (not toggle) n y) a b
+pub cut-on : (m id : ℕ) (start toggle : Bool) (n at : ℕ) (ys zs : List ℕ) → m ≤ length (drop at ys) → at ≤ length ys
+    → cut m id start toggle (suc n) (drop at (ys ++ zs)) ≡ tailed (take m (drop at ys)) (tailByte start false toggle id) ∷ cut m id false (not toggle) n (drop (at + m) (ys ++ zs))
+cut-on m id start toggle n at ys zs h l =
+    let a : take m (drop at (ys ++ zs)) ≡ take m (drop at ys) = ap (take m) (drop-append-le at ys zs l) ∙ take-append-le m (drop at ys) zs h in
+    ap₂ (λ (x y : List ℕ). tailed x (tailByte start false toggle id) ∷ cut m id false (not toggle) n y) a (drop-drop m at (ys ++ zs))
 
 -- ---- how many frames are left
 

@@ -1,14 +1,13 @@
 -- Lists of bytes in an array of zeros: a part laid at the front, zeros behind it, two bytes set behind those.
-use mathlib.Core.Path.{_≡_, refl, sym, ap, _∙_}
+use mathlib.Core.Path.{_≡_, refl, sym, ap, ap₂, _∙_}
 use mathlib.Core.List.{List, [], _∷_, _++_, append-assoc}
 use Prim.Native.Nat.{ℕ, zero, suc, _+_, _-_, _≤_}
 use native.Mathlib.Nat.{sub-zero, zero-sub, suc-sub-suc}
 use native.Mathlib.Omega.{arith}
 use lib.ListN.{length, set, take, drop, replicate, length-append, length-replicate, replicate-append-replicate}
-use lib.Seq.{take-at, set-at, append-snoc, take-all}
+use lib.Seq.{take-at, drop-at, set-at, append-snoc, take-all}
 use Rattle.laws.specs.Laid.{laid}
-use Rattle.rules.specs.Crc.{crcFrom, crcBytes}
-use Rattle.rules.specs.Transfer.{padded, withCrc}
+use Rattle.rules.specs.Transfer.{padded}
 
 -- a list that fits is laid whole
 laid-whole : (s d : List ℕ) → length s ≤ length d → laid s d ≡ s ++ drop (length s) d
@@ -29,7 +28,7 @@ laid-zeros s k h =
     let l : length s ≤ length (zeros k) = omega (arith, length-replicate {A = ℕ} k 0) in
     laid-whole s (zeros k) l ∙ ap (λ (z : List ℕ). s ++ z) (drop-zeros (length s) k)
 
-pub length-padded : (s : List ℕ) (n : ℕ) → length (padded n s) ≡ length s + n
+length-padded : (s : List ℕ) (n : ℕ) → length (padded n s) ≡ length s + n
 length-padded s n = length-append s (replicate n 0) ∙ ap (λ (k : ℕ). length s + k) (length-replicate n 0)
 
 -- so many zeros as n, and the rest of them
@@ -48,19 +47,19 @@ two p k n a b e =
     rw (set-at p 0 (0 ∷ replicate k 0) a n e, ← append-snoc p a (0 ∷ replicate k 0), set-at (p ++ (a ∷ [])) 0 (replicate k 0) b (n + 1) l)
     (append-assoc p (a ∷ []) (b ∷ replicate k 0) ∙ sym (append-assoc p (a ∷ b ∷ []) (replicate k 0)))
 
+-- n of the zeros behind a part
+pub padding-part : (s : List ℕ) (n k : ℕ) → n ≤ k → take (length s + n - length s) (drop (length s) (padded k s)) ≡ zeros n
+padding-part s n k h =
+    let e : length s + n - length s ≡ n = omega arith in
+    ap₂ take e (drop-at s (zeros k) (length s) refl ∙ more-zeros [] n k h) ∙ take-at (zeros n) (zeros (k - n)) n (length-replicate n 0)
+
 -- two bytes set behind n of the zeros
-pub two-set : (s : List ℕ) (n k a b : ℕ) → n + 2 ≤ k → set (set (padded k s) (length s + n) a) (length s + n + 1) b ≡ (padded n s ++ (a ∷ b ∷ [])) ++ replicate (k - (n + 2)) 0
+pub two-set : (s : List ℕ) (n k a b : ℕ) → n + 2 ≤ k → take (length s + n + 2) (set (set (padded k s) (length s + n) a) (length s + n + 1) b) ≡ s ++ (zeros n ++ (a ∷ b ∷ []))
 two-set s n k a b h =
     let z : k - n ≡ suc (suc (k - (n + 2))) = omega arith in
-    ap (λ (l : List ℕ). set (set l (length s + n) a) (length s + n + 1) b)
-    (more-zeros s n k (omega arith) ∙ ap (λ (j : ℕ). padded n s ++ replicate j 0) z)
-    ∙ two (padded n s) (k - (n + 2)) (length s + n) a b (length-padded s n)
-
-pub length-crc : (c : ℕ) (s : List ℕ) (n : ℕ) → length (withCrc c (padded n s)) ≡ length s + n + 2
-length-crc c s n = length-append (padded n s) (crcBytes (crcFrom c (padded n s))) ∙ ap (λ (k : ℕ). k + 2) (length-padded s n)
-
--- what lies in the rest's array
-pub rest-part : (c pad n : ℕ) (ys zs r : List ℕ) (z : ℕ) → ys ≡ zs → r ≡ withCrc c (padded pad ys) ++ zeros z → n ≡ length zs + pad + 2 → take n r ≡ withCrc c (padded pad zs)
-rest-part c pad n ys zs r z e er en =
-    ap (take n) (er ∙ ap (λ (x : List ℕ). withCrc c (padded pad x) ++ zeros z) e)
-    ∙ take-at (withCrc c (padded pad zs)) (zeros z) n (length-crc c zs pad ∙ sym en)
+    let l : length (padded n s ++ (a ∷ b ∷ [])) ≡ length s + n + 2 = length-append (padded n s) (a ∷ b ∷ []) ∙ ap (λ (j : ℕ). j + 2) (length-padded s n) in
+    ap (λ (r : List ℕ). take (length s + n + 2) (set (set r (length s + n) a) (length s + n + 1) b))
+    (more-zeros s n k (omega arith) ∙ ap (λ (j : ℕ). padded n s ++ zeros j) z)
+    ∙ ap (take (length s + n + 2)) (two (padded n s) (k - (n + 2)) (length s + n) a b (length-padded s n))
+    ∙ take-at (padded n s ++ (a ∷ b ∷ [])) (zeros (k - (n + 2))) (length s + n + 2) l
+    ∙ append-assoc s (zeros n) (a ∷ b ∷ [])

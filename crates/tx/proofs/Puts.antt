@@ -1,19 +1,17 @@
 -- Frames put one after the other: a frame that finds a place is pushed, and what is still owed falls by each frame that is put.
-use mathlib.Core.Path.{_≡_, refl, sym, ap, _∙_, subst}
+use mathlib.Core.Path.{_≡_, refl, ap, _∙_, subst}
 use mathlib.Core.Bool.{Bool, true, false, not}
-use mathlib.Core.List.{List, [], _∷_}
+use mathlib.Core.List.{List, [], _∷_, _++_}
 use Prim.Native.Nat.{ℕ, suc, _+_, _-_, _≤_, _<_}
 use native.Mathlib.Omega.{arith}
 use lib.ListN.{length, take, drop, length-drop}
-use lib.Seq.{drop-drop}
 use borrow.Author.Tests.{le-leb}
 use Rattle.rules.specs.declared.frame.Marks.{Marks}
 use Rattle.rules.specs.declared.placing.Placing.{Placing}
 use Rattle.rules.specs.declared.placing.Placing.the-variants.{Placed}
 use Rattle.rules.specs.Limits.{greatestCanId, greatestFrame}
-use Rattle.rules.specs.Crc.{crcFrom}
 use Rattle.rules.specs.TailByte.{tailByte}
-use Rattle.rules.specs.Transfer.{padded, withCrc, tailed, cut}
+use Rattle.rules.specs.Transfer.{tailed, cut}
 use Rattle.rules.specs.Frames.{frame}
 use Rattle.rules.specs.Queue.{pushed, after}
 use Rattle.rules.specs.Sending.{allPushed}
@@ -81,22 +79,18 @@ pub owes-place : (marks : Marks) (m id : ℕ) (start toggle : Bool) (left : ℕ)
     → Owes marks (cut m id start toggle left ys) q ps fs₀ q₀ ps₀ → left < free q ps
 owes-place marks m id start toggle left ys o = omega (arith, o .enough, cut-count m id start toggle left ys)
 
--- one turn of the loop: the frame from at on is put, and the CRC has gone over it
-pub turn : (marks : Marks) (id m pad : ℕ) (payload : List ℕ) (at left crc : ℕ) (start toggle : Bool) (crc′ : ℕ) {q q₀ q′ : ArrayQueue} {ps ps₀ ps′ fs₀ : List (List ℕ)}
-    → at ≤ length payload → m ≤ length payload - at → 0 < left → crc′ ≡ crcFrom crc (take (at + m - at) (drop at payload))
-    → Owes marks (cut m id start toggle left (withCrc crc (padded pad (drop at payload)))) q ps fs₀ q₀ ps₀
+-- one turn of the loop: the frame of payload from at on is put, whatever stands behind the payload
+pub turn : (marks : Marks) (id m : ℕ) (payload behind : List ℕ) (at left : ℕ) (start toggle : Bool) {q q₀ q′ : ArrayQueue} {ps ps₀ ps′ fs₀ : List (List ℕ)}
+    → at ≤ length payload → m ≤ length payload - at → 0 < left
+    → Owes marks (cut m id start toggle left (drop at (payload ++ behind))) q ps fs₀ q₀ ps₀
     → Puts marks (tailed (take (at + m - at) (drop at payload)) (tailByte start false toggle id) ∷ []) q ps q′ ps′
-    → Owes marks (cut m id false (not toggle) (left - 1) (withCrc crc′ (padded pad (drop (at + m) payload)))) q′ ps′ fs₀ q₀ ps₀
-turn marks id m pad payload at left crc start toggle crc′ {q} {q₀} {q′} {ps} {ps₀} {ps′} {fs₀} h₁ h₂ h₃ ec o p =
+    → Owes marks (cut m id false (not toggle) (left - 1) (drop (at + m) (payload ++ behind))) q′ ps′ fs₀ q₀ ps₀
+turn marks id m payload behind at left start toggle {q} {q₀} {q′} {ps} {ps₀} {ps′} {fs₀} h₁ h₂ h₃ o p =
     let e : at + m - at ≡ m = omega arith in
     let h : m ≤ length (drop at payload) = omega (arith, length-drop at payload) in
     let l : left ≡ suc (left - 1) = omega arith in
-    let c = ap (λ (n : ℕ). cut m id start toggle n (withCrc crc (padded pad (drop at payload)))) l ∙ cut-on m id start toggle (left - 1) crc pad (drop at payload) h in
-    let o₁ = subst (λ (x : List (List ℕ)). Owes marks x q ps fs₀ q₀ ps₀) c o in
-    let o₂ = owes-less o₁ (rw e at p) in
-    let c₁ : crcFrom crc (take m (drop at payload)) ≡ crc′ = sym (rw e at ec) in
-    let o₃ = subst (λ (x : ℕ). Owes marks (cut m id false (not toggle) (left - 1) (withCrc x (padded pad (drop m (drop at payload))))) q′ ps′ fs₀ q₀ ps₀) c₁ o₂ in
-    subst (λ (x : List ℕ). Owes marks (cut m id false (not toggle) (left - 1) (withCrc crc′ (padded pad x))) q′ ps′ fs₀ q₀ ps₀) (drop-drop m at payload) o₃
+    let c = ap (λ (n : ℕ). cut m id start toggle n (drop at (payload ++ behind))) l ∙ cut-on m id start toggle (left - 1) at payload behind h h₁ in
+    owes-less (subst (λ (x : List (List ℕ)). Owes marks x q ps fs₀ q₀ ps₀) c o) (rw e at p)
 
 -- ---- the end
 

@@ -55,11 +55,12 @@ fn alone(
     ensures { λ r. ⌜ Puts marks (tailed (padded padding (now (payload .entry))) (tailByte true true true (id .0)) ∷ []) queue (now (places .entry)) r (now (places .exit)) ⌝ }
 {
     let n = payload.len() + padding;
-    let rest = breakdown::padded_part(payload);
+    let mut rest = [0u8; 64];
+    blocks::copy(payload, &mut rest);
     one(queue, places, marks, id, &rest[..n], true, true, true)
 }
 
-// A transfer of several frames: those that are full of payload, then the rest.
+// A transfer of several frames: those that are full of payload, then the rest. The CRC goes over the payload at once: long runs are cheaper than parts.
 fn several(
     queue: ArrayQueue,
     places: &mut [Place],
@@ -76,12 +77,11 @@ fn several(
     let mut q = queue;
     let mut at: usize = 0;
     let mut left = frames - 1;
-    let mut crc = crc::INITIAL;
+    let crc = crc::digest_bytes(crc::INITIAL, payload);
     let mut start = true;
     let mut toggle = true;
     while room <= payload.len() - at {
         let e = at + room;
-        crc = crc::digest_bytes(crc, &payload[at..e]);
         q = one(q, places, marks, id, &payload[at..e], start, false, toggle);
         at = e;
         left -= 1;
@@ -89,7 +89,8 @@ fn several(
         toggle = !toggle;
     }
     let n = payload.len() - at + padding + 2;
-    let rest = breakdown::rest_of(crc, padding, &payload[at..]);
+    let mut rest = [0u8; 128];
+    breakdown::close(&mut rest, crc, padding, &payload[at..]);
     last(q, places, marks, id, room, left, start, toggle, &rest[..n])
 }
 

@@ -16,6 +16,7 @@ ghost use mathlib.Core.Path.{_≡_};
 ghost use Prim.Native.Nat.{_+_, _≤_, _<_};
 ghost use Rattle.rules.specs.CanId.{bitsAt, isSet, sourceOf, messageHeaderOf, serviceHeaderOf, saidBy, parsedCanId};
 ghost use Rattle.rules.specs.TailByte.{parsedTail};
+ghost use Rattle.wire.specs.Addressed.{messageTo, serviceTo};
 
 // The header that a received CAN ID says. 2^29 or more: refusal 1; a reserved bit: refusal 4. Bits 21 and 22 are not looked at.
 pub fn parse_can_id(id: u32) -> ParsedCanId
@@ -43,6 +44,57 @@ fn parse_header(id: u32) -> ParsedCanId
         return ParsedCanId::Refused(Refusal::ReservedBit);
     }
     ParsedCanId::Parsed(Header::Message(message_header(id)))
+}
+
+// Whether a CAN ID says a message to this subject, from a source that is named. No header is made.
+pub fn is_message_to(id: u32, subject: SubjectId) -> bool
+    ensures { λ r. ⌜ r ≡ messageTo subject (parsedCanId id) ⌝ }
+{
+    if !CanId(id).is_valid() {
+        return false;
+    }
+    if bit_set(id, 23) {
+        return false;
+    }
+    let service = bit_set(id, 25);
+    if service {
+        return false;
+    }
+    let reserved = bit_set(id, 7);
+    if reserved {
+        return false;
+    }
+    let anonymous = bit_set(id, 24);
+    if anonymous {
+        return false;
+    }
+    let asked = field(id, 8, 13);
+    subject.0 as u32 == asked
+}
+
+// Whether a CAN ID says a request, or else a response, of this service to this node. No header is made.
+pub fn is_service_to(id: u32, request: bool, service: ServiceId, node: CanNodeId) -> bool
+    ensures { λ r. ⌜ r ≡ serviceTo request service node (parsedCanId id) ⌝ }
+{
+    if !CanId(id).is_valid() {
+        return false;
+    }
+    if bit_set(id, 23) {
+        return false;
+    }
+    if !bit_set(id, 25) {
+        return false;
+    }
+    let asks = bit_set(id, 24);
+    if request != asks {
+        return false;
+    }
+    let asked = field(id, 14, 9);
+    if service.0 as u32 != asked {
+        return false;
+    }
+    let destination = field(id, 7, 7);
+    node.0 as u32 == destination
 }
 
 // The marks of a tail byte; every byte is one.

@@ -1,4 +1,5 @@
 pub mod Ages
+pub mod InMiddle
 pub mod Judging
 pub mod Parts
 pub mod Saved

@@ -6,6 +6,7 @@ ghost use mathlib.Core.Path.{_≡_};
 ghost use lib.ListN.{drop};
 ghost use Rattle.rules.specs.Answers.{answerOf, leading, partShown, shown};
 
+mod middle;
 pub mod subscription;
 
 // The bytes that an answer names, where they lie: a part of the frame that was answered, or of the store as that call left it. An empty part where the answer

@@ -1,4 +1,5 @@
 // Subscriptions, after rx/subscription.rs: the transfer-ID filter and its timeout for each of 128 sources, whose slots and whose parts of the store the caller lends.
+use crate::middle;
 use rules::data::EXTENT_MAX;
 use rules::data::FRAME_CAPACITY;
 use rules::frame::Marks;
@@ -73,15 +74,10 @@ impl Subscription {
         if store.len() < 128 * (settings.extent as usize) {
             return Received::Refused(Refusal::StoreTooSmall);
         }
-        let port = settings.port;
-        match read(port, marks, bytes) {
-            Reading::Refused(refusal) => Received::Refused(refusal),
-            Reading::NotOurs => Received::NotOurs,
-            Reading::Ours(arrival) => {
-                let before = before_tail(bytes);
-                accept_ours(settings, slots, store, arrival, before)
-            }
+        if middle::joined(settings, slots, store, marks, bytes) {
+            return Received::Nothing;
         }
+        judge(settings, slots, store, marks, bytes)
     }
 }
 
@@ -104,6 +100,28 @@ fn service_valid(port: ServicePort) -> bool
         return false;
     }
     node.is_valid()
+}
+
+// A frame of any kind, where the store has a part for each source.
+fn judge(
+    settings: Settings,
+    slots: &mut Slots,
+    store: &mut [u8],
+    marks: Marks,
+    bytes: &[u8],
+) -> Received
+    requires { ⌜ nodes * settings .extent ≤ length (now store) ⌝ }
+    ensures { λ r. ⌜ closes (answerOf r) (now (slots .exit)) (now (store .exit)) ≡ accepted settings (now (slots .entry)) (now (store .entry)) (frame marks (now (bytes .entry))) ⌝ }
+{
+    let port = settings.port;
+    match read(port, marks, bytes) {
+        Reading::Refused(refusal) => Received::Refused(refusal),
+        Reading::NotOurs => Received::NotOurs,
+        Reading::Ours(arrival) => {
+            let before = before_tail(bytes);
+            accept_ours(settings, slots, store, arrival, before)
+        }
+    }
 }
 
 // What the frame is to the subscription, whatever its slots.
@@ -289,7 +307,7 @@ fn timed_out(timeout: u32, last_time: LastTime, stamp: u32) -> bool
 }
 
 // Where a source's part of the store starts.
-fn start_of(source: CanNodeId, extent: u16) -> usize
+pub(crate) fn start_of(source: CanNodeId, extent: u16) -> usize
     ensures { λ r. ⌜ (r ≡ source .0 * extent) × (r < 2 ^ 24) ⌝ }
 {
     source.0 as usize * extent as usize

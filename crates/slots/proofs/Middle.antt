@@ -1,20 +1,25 @@
 -- A session that is looked at and moved on in its words: the four bits from its own on are awaited as one number, and the marks of the session one frame further
 -- are the old ones but for the CRC, the start bit and the toggle.
 use mathlib.Core.Path.{_≡_, refl, sym, ap, _∙_}
-use mathlib.Core.Bool.{Bool, true, false, not, cond, _&&_, Bool·beq, and-assoc}
+use mathlib.Core.Bool.{Bool, true, false, not, cond, _&&_, Bool·beq, and-assoc, false≢true}
 use mathlib.Core.List.{List, [], _∷_}
 use Prim.Native.Nat.{ℕ, _+_, _-_, _*_, _/_, _%_}
 use native.Mathlib.Omega.{arith}
 use lib.Dec.{eqb}
 use lib.ListN.{getD}
 use borrow.Author.Tests.{eq-eqb, ne-eqb, eqb-true, eqb-false}
+use Rattle.laws.proofs.Choose.{first-chosen, both-true}
+use Rattle.rules.specs.declared.tail.TailByte.{TailByte as Tail}
 use Rattle.rules.specs.declared.slots.LastTime.the-variants.{Never, At}
 use Rattle.rules.specs.declared.slots.Session.{Session}
+use Rattle.rules.specs.declared.slots.Open.{Open}
 use Rattle.rules.specs.declared.slots.Open.the-variants.{Closed, With}
+use Rattle.rules.specs.declared.slots.Slot.{Slot}
 use Rattle.rules.specs.CanId.{bit}
+use Rattle.rules.specs.Slot.{withSession}
 use Rattle.slots.specs.declared.Progress.{Progress}
 use Rattle.slots.specs.Words.{timeWords, sessionMarks, wordsOf, flagOf, lastTimeIn, sessionIn, slotOf}
-use Rattle.slots.specs.Middle.{sessionAwaits, progressIn, wordsOn}
+use Rattle.slots.specs.Middle.{sessionAwaits, slotAwaits, progressIn, sessionOn, openOn, wordsOn}
 
 -- ---- bits as numbers
 
@@ -51,22 +56,23 @@ same-bit false false = refl
 
 -- ---- awaited
 
+-- the session that is read, if one is
+abbrev read : ℕ → ℕ → ℕ → Session
+read stamp m total =
+    record {
+      stamp = stamp;
+      loopback = flagOf (m / 1024);
+      «expect_start» = flagOf (m / 2048);
+      «expect_toggle» = flagOf (m / 4096);
+      crc = m / 65536 % 65536;
+      total = total;
+    }
+
 -- whether a session awaits a frame is told by its marks alone
 pub by-marks : (stamp total m : ℕ) (l t : Bool) → sessionAwaits (sessionIn stamp m total) l t ≡ sessionAwaits (sessionIn 0 m 0) l t
 by-marks stamp total m l t = go (flagOf (m / 512))
   where
-    from : ℕ → ℕ → Session
-    from s k =
-        record {
-          stamp = s;
-          loopback = flagOf (m / 1024);
-          «expect_start» = flagOf (m / 2048);
-          «expect_toggle» = flagOf (m / 4096);
-          crc = m / 65536 % 65536;
-          total = k;
-        }
-
-    go : (a : Bool) → sessionAwaits (cond a (With (from stamp total)) Closed) l t ≡ sessionAwaits (cond a (With (from 0 0)) Closed) l t
+    go : (a : Bool) → sessionAwaits (cond a (With (read stamp m total)) Closed) l t ≡ sessionAwaits (cond a (With (read 0 m 0)) Closed) l t
     go true = refl
     go false = refl
 
@@ -142,3 +148,32 @@ words-on w p h =
 pub words-kept : (w : List ℕ) (p : Progress) → flagOf (getD w 2 0 / 512) ≡ false → wordsOn w p ≡ w
 unfolding wordsOn slotOf
 words-kept w p h = rw h
+
+-- ---- for those who go by the slot
+
+-- a slot that awaits a frame expects its ID, and has a session that awaits it
+pub awaited : (slot : Slot) (tail : Tail) (l : Bool) → slotAwaits slot tail l ≡ true
+    → (s : Session) × (slot .session ≡ With s) × (eqb (tail .«transfer_id» .0) (slot .expected .0) ≡ true) × (sessionAwaits (With s) l (tail .toggle) ≡ true)
+unfolding slotAwaits
+awaited slot tail l e =
+    let b = both-true (eqb (tail .«transfer_id» .0) (slot .expected .0)) (sessionAwaits (slot .session) l (tail .toggle)) e in
+    go (slot .session) (b .0) (b .1)
+  where
+    go : (o : Open) → eqb (tail .«transfer_id» .0) (slot .expected .0) ≡ true → sessionAwaits o l (tail .toggle) ≡ true
+        → (s : Session) × (o ≡ With s) × (eqb (tail .«transfer_id» .0) (slot .expected .0) ≡ true) × (sessionAwaits (With s) l (tail .toggle) ≡ true)
+    go Closed d f = absurd (false≢true f)
+    go (With s) d f = (s, refl, d, f)
+
+-- a slot with a session is as far as the session is
+pub progress-of : (w : List ℕ) (s : Session) → slotOf w .session ≡ With s → progressIn w ≡ record { crc = s .crc; total = s .total }
+unfolding slotOf progressIn
+progress-of w s e =
+    let r : Session = read (getD w 1 0) (getD w 2 0) (getD w 3 0) in
+    let c = first-chosen (flagOf (getD w 2 0 / 512)) (With r) Closed (With s) e (λ y. let z : _≡_ {A = ℕ} 0 1 = cc in omega arith) in
+    let f : r ≡ s = cc in
+    ap (λ (x : Session). record { crc = x .crc; total = x .total }) f
+
+-- and its words one frame further are those of the slot with the session one frame further
+pub words-with : (w : List ℕ) (p : Progress) (s : Session) → slotOf w .session ≡ With s → wordsOn w p ≡ wordsOf (withSession (slotOf w) (With (sessionOn s p)))
+unfolding wordsOn
+words-with w p s e = ap (λ (o : Open). openOn o w p) e

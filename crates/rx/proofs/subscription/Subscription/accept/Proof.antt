@@ -1,15 +1,13 @@
-use mathlib.Core.List.{List}
+-- A frame that the short way took is answered as the rules have it; one that it left comes to unchanged slots and store.
+use mathlib.Core.Bool.{cond}
 use mathlib.Core.Path.{sym, ap, _∙_}
-use Prim.Native.Nat.{ℕ}
 use lib.ListN.{length}
 use denote.Ref.{now}
-use borrow.Author.Needs.{needs}
-use Rattle.rules.specs.Answers.{Answer}
-use Rattle.rules.specs.declared.receive.Arrival.{Arrival}
-use Rattle.rules.specs.Receiver.{sourceIn, bySource}
+use Rattle.rules.specs.Answers.{nothing}
 use Rattle.rules.specs.Frames.{frame}
 use Rattle.rx.specs.Accept.{Closing, closes, inWords, accepted}
-use Rattle.rx.proofs.Judging.{too-small, read-as, ours-known}
+use Rattle.rx.proofs.Judging.{too-small}
+use borrow.Author.Needs.{needs}
 use Rattle.rx.proofs.subscription.Subscription.accept.Statement.{statement}
 use Rattle.rx.proofs.subscription.Subscription.accept.Tie as tie
 
@@ -23,63 +21,38 @@ returns : tie.Need-returns
 unfolding accepted
 returns c =
     let a = c .before .before .before .before .before .args in
-    let f = frame (a .marks) (now (a .bytes)) in
-    let same : Answer → Closing = λ x. closes x (now (a .slots)) (now (a .store)) in
-    let slot : ℕ → Arrival → List ℕ → Closing = inWords (a .self .settings) (now (a .slots)) (now (a .store)) in
-    sym (too-small (a .self .settings) (length (now (a .store))) f same slot (c .if1 .taken))
+    let w = now (a .slots) in
+    let t = now (a .store) in
+    sym (too-small (a .self .settings) (length t) (frame (a .marks) (now (a .bytes))) (λ x. closes x w t) (inWords (a .self .settings) w t) (c .if1 .taken))
 
-read-requires : tie.Need-read-requires
-read-requires c κs = search needs
-
-enum-known-refusal : tie.Need-enum-known-refusal
-enum-known-refusal c = search needs
-
-enum-told : tie.Need-enum-told
-enum-told c = search needs
-
-enum-known-arrival : tie.Need-enum-known-arrival
-enum-known-arrival c = search needs
-
-before-tail-requires : tie.Need-before-tail-requires
-before-tail-requires c κs = search needs
-
-accept-ours-requires : tie.Need-accept-ours-requires
-accept-ours-requires c κs =
-    let a = c .before .before .before .before .before .before .before .before .before .before .before .before .args in
-    (ours-known (a .self .settings .port) (frame (a .marks) (now (a .bytes))) _ (sym (c .before .before .before .before .before .before .read .ensures) ∙ c .before .before .before .before .arrival .given .1), c .before .before .before .before .before .before .before .if1 .left)
-
-returns-2 : tie.Need-returns-2
-unfolding accepted
-returns-2 c =
-    let a = c .before .before .before .before .before .before .before .before .before .args in
-    let f = frame (a .marks) (now (a .bytes)) in
-    let same : Answer → Closing = λ x. closes x (now (a .slots)) (now (a .store)) in
-    let slot : ℕ → Arrival → List ℕ → Closing = inWords (a .self .settings) (now (a .slots)) (now (a .store)) in
-    sym (read-as (a .self .settings) (length (now (a .store))) f same slot _ (c .before .before .before .before .if1 .left) (sym (c .before .before .before .read .ensures) ∙ c .before .refusal .given .1))
-
-returns-3 : tie.Need-returns-3
-unfolding accepted
-returns-3 c =
-    let a = c .before .before .before .before .before .before .before .before .args in
-    let f = frame (a .marks) (now (a .bytes)) in
-    let same : Answer → Closing = λ x. closes x (now (a .slots)) (now (a .store)) in
-    let slot : ℕ → Arrival → List ℕ → Closing = inWords (a .self .settings) (now (a .slots)) (now (a .store)) in
-    sym (read-as (a .self .settings) (length (now (a .store))) f same slot _ (c .before .before .before .if1 .left) (sym (c .before .before .read .ensures) ∙ c .enum-told .given .1))
+joined-requires : tie.Need-joined-requires
+joined-requires c κs = search needs
 
 same-length : tie.Need-same-length
 same-length c = search needs
 
-returns-4 : tie.Need-returns-4
-unfolding accepted
-returns-4 c =
-    let a = c .before .before .before .before .before .before .before .before .before .before .before .before .before .before .before .args in
+returns-2 : tie.Need-returns-2
+returns-2 c =
+    let a = c .before .before .before .before .before .before .before .before .before .before .before .args in
+    let w = now (a .slots) in
+    let t = now (a .store) in
+    c .before .before .before .joined .ensures
+    ∙ ap (λ r. cond r (accepted (a .self .settings) w t (frame (a .marks) (now (a .bytes)))) (closes nothing w t)) (c .if2 .taken)
+
+judge-requires : tie.Need-judge-requires
+judge-requires c κs = search needs
+
+same-length-2 : tie.Need-same-length-2
+same-length-2 c = search needs
+
+returns-3 : tie.Need-returns-3
+returns-3 c =
+    let a = c .before .before .before .before .before .before .before .before .before .before .before .before .before .before .before .before .args in
+    let w = now (a .slots) in
+    let t = now (a .store) in
     let f = frame (a .marks) (now (a .bytes)) in
-    let same : Answer → Closing = λ x. closes x (now (a .slots)) (now (a .store)) in
-    let slot : ℕ → Arrival → List ℕ → Closing = inWords (a .self .settings) (now (a .slots)) (now (a .store)) in
-    let o = c .before .before .before .before .before .before .before .arrival .given in
-    c .before .before .accept-ours .ensures
-    ∙ ap (λ b. bySource (sourceIn (o .0 .0 .header)) (o .0 .0) b same slot) (c .before .before .before .before .before .before-tail .ensures)
-    ∙ sym (read-as (a .self .settings) (length (now (a .store))) f same slot _ (c .before .before .before .before .before .before .before .before .before .before .if1 .left) (sym (c .before .before .before .before .before .before .before .before .before .read .ensures) ∙ o .1))
+    let e = c .before .before .before .before .before .before .before .before .joined .ensures ∙ ap (λ r. cond r (accepted (a .self .settings) w t f) (closes nothing w t)) (c .before .before .before .before .before .if2 .left) in
+    c .before .before .judge .ensures ∙ ap (λ (k : Closing). accepted (a .self .settings) (k .words) (k .store) f) e
 
 pub accept-spec : {M : Type 1} → statement M
 accept-spec =
@@ -88,13 +61,9 @@ accept-spec =
     cast-if1
     mul-if1
     returns
-    read-requires
-    enum-known-refusal
-    enum-told
-    enum-known-arrival
-    before-tail-requires
-    accept-ours-requires
-    returns-2
-    returns-3
+    joined-requires
     same-length
-    returns-4)
+    returns-2
+    judge-requires
+    same-length-2
+    returns-3)

@@ -1,9 +1,7 @@
 // A copy of bytes by blocks of sixteen. The last block ends where the bytes end and may overlap the one before it, so that
 // no loop over single bytes is left. No public function has a `requires`.
 ghost use mathlib.Core.Path.{_≡_};
-ghost use mathlib.Core.Bool.{_&&_, cond};
 ghost use Prim.Native.Nat.{_+_, _≤_, _<_};
-ghost use lib.Dec.{eqb, leb};
 ghost use lib.ListN.{length, getD, set};
 ghost use Rattle.blocks.specs.Blocks.{fourAt, withFour, over};
 ghost use Rattle.laws.specs.Laid.{laid};
@@ -187,18 +185,16 @@ pub fn copy(src: &[u8], dst: &mut [u8]) -> usize
     whole(src, dst)
 }
 
-// Copies seven bytes, as a full frame of 8 has before its tail byte, or none: where there are not just seven, or where dst has no room for them. Says whether it
-// did. For a caller with seven bytes at hand, the compiler leaves two loads and two stores of it.
-pub fn copy_seven(src: &[u8], dst: &mut [u8]) -> bool
-    ensures { λ r. ⌜ r ≡ (eqb (length (now (src .entry))) 7 && leb 7 (length (now (dst .entry)))) ⌝ }
-    ensures { λ r. ⌜ now (dst .exit) ≡ cond r (laid (now (src .entry)) (now (dst .entry))) (now (dst .entry)) ⌝ }
+// As copy, for a caller that mostly has seven bytes and room for them, as a full frame of 8 has before its tail byte: the compiler puts them in line.
+pub fn copy_seven(src: &[u8], dst: &mut [u8]) -> usize
+    ensures { λ r. ⌜ Copied (now (src .entry)) (now (dst .entry)) r (now (dst .exit)) ⌝ }
 {
     if src.len() != 7 {
-        return false;
+        return copy(src, dst);
     }
     if dst.len() < 7 {
-        return false;
+        return copy(src, dst);
     }
     fours(src, dst);
-    true
+    7
 }

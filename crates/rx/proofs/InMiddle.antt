@@ -2,13 +2,12 @@
 use mathlib.Core.Path.{_≡_, refl, sym, ap, _∙_}
 use mathlib.Core.Bool.{Bool, true, false, not, cond, _&&_, Bool·beq, false≢true}
 use mathlib.Core.List.{List, []}
-use Prim.Native.Nat.{ℕ, _+_, _-_, _*_, _%_, _≤_, min}
+use Prim.Native.Nat.{ℕ, _+_, _-_, _*_, _%_, _≤_, _<_, min}
 use native.Mathlib.Omega.{arith}
 use lib.Dec.{eqb, leb}
 use lib.ListN.{length, take, drop, getD, set}
-use borrow.Author.Tests.{le-leb, lt-leb, leb-true, leb-false, ne-eqb, eqb-true}
-use borrow.Rule.Slice.PartMut.{putMid, mid-len, put-same}
-use Rattle.laws.specs.Laid.{laid}
+use borrow.Author.Tests.{le-leb, leb-true, ne-eqb}
+use borrow.Rule.Slice.PartMut.{putMid}
 use Rattle.laws.proofs.Choose.{both-true}
 use Rattle.rules.specs.declared.types.CanTransferId.{CanTransferId}
 use Rattle.rules.specs.declared.header.Source.{Source}
@@ -39,47 +38,19 @@ use Rattle.slots.specs.declared.Progress.{Progress}
 use Rattle.slots.specs.Words.{wordsOf, slotOf}
 use Rattle.slots.specs.Middle.{sessionAwaits, slotAwaits, progressIn, sessionOn, wordsOn}
 use Rattle.slots.proofs.Middle.{awaited, progress-of, words-with}
-use Rattle.session.proofs.Parts.{lent-rest}
 use Rattle.rx.specs.Accept.{Closing, closes, saved, ruled, inWords, accepted}
 use Rattle.rx.proofs.Judging.{read-as}
 use Rattle.rx.proofs.Parts.{lent-out, lent-back}
 
--- ---- seven bytes in a part
+-- ---- bytes in a part
 
--- what is asked of the rest behind the total is asked of the whole part
-room-behind : (total len : ℕ) → total ≤ len → leb 7 (len - total) ≡ leb (total + 7) len
-room-behind total len h = go (leb (total + 7) len) refl
-  where
-    go : (t : Bool) → leb (total + 7) len ≡ t → leb 7 (len - total) ≡ t
-    go true e = le-leb 7 (len - total) (omega (arith, leb-true (total + 7) len e))
-    go false e = lt-leb 7 (len - total) (omega (arith, leb-false (total + 7) len e))
-
--- the rest of a part, lent to a copy of seven bytes, is back with these behind the total, or as it was
-pub seven-behind : (part bytes : List ℕ) (total : ℕ) (r : Bool) {ys : List ℕ} → total ≤ length part
-    → r ≡ (eqb (length bytes) 7 && leb 7 (length (take (length part - total) (drop total part))))
-    → ys ≡ cond r (laid bytes (take (length part - total) (drop total part))) (take (length part - total) (drop total part))
-    → (r ≡ (eqb (length bytes) 7 && leb (total + 7) (length part))) × (putMid total (length part - total) part ys ≡ cond r (stored total bytes part) part)
-seven-behind part bytes total r {ys} h e f =
-    let n : length part ≤ length part = omega arith in (
-      e
-          ∙ ap (λ (k : ℕ). eqb (length bytes) 7 && leb 7 k) (mid-len total (length part) part n)
-          ∙ ap (λ (t : Bool). eqb (length bytes) 7 && t) (room-behind total (length part) h),
-      go r f,
-    )
-  where
-    go : (t : Bool) → ys ≡ cond t (laid bytes (take (length part - total) (drop total part))) (take (length part - total) (drop total part))
-        → putMid total (length part - total) part ys ≡ cond t (stored total bytes part) part
-    go true q = lent-rest part bytes total h q
-    go false q = ap (putMid total (length part - total) part) q ∙ put-same total (length part - total) part
-
--- where a source's part took them, they are seven, and the part reaches over them
+-- where a source's part took them, it reaches over them
 pub in-part : (bytes store : List ℕ) (e n at total : ℕ) (r : Bool) → at ≡ n * e → r ≡ true
-    → r ≡ (eqb (length bytes) 7 && leb (total + 7) (length (take (at + e - at) (drop at store))))
-    → (length bytes ≡ 7) × (total + 7 ≤ length (partOf e n store))
+    → r ≡ leb (total + length bytes) (length (take (at + e - at) (drop at store)))
+    → total + length bytes ≤ length (partOf e n store)
 in-part bytes store e n at total r place took room =
-    let b = both-true (eqb (length bytes) 7) (leb (total + 7) (length (take (at + e - at) (drop at store)))) (sym room ∙ took) in
-    let l = leb-true (total + 7) (length (take (at + e - at) (drop at store))) (b .1) in
-    (eqb-true (length bytes) 7 (b .0), rw (lent-out e n store at place) at l)
+    let l = leb-true (total + length bytes) (length (take (at + e - at) (drop at store))) (sym room ∙ took) in
+    rw (lent-out e n store at place) at l
 
 -- ---- a session in the middle of its transfer
 
@@ -136,20 +107,20 @@ module _ (a : Arrival) (bytes : List ℕ) (start : a .tail .start ≡ false) (en
   -- the short way leaves what the rules do
   pub short-way : (s : Settings) (words : List (List ℕ)) (store : List ℕ) (n at : ℕ) (so : Progress) (crc : ℕ) (r : Bool) {after : List (List ℕ)} {part : List ℕ}
       → at ≡ n * s .extent → so ≡ progressIn (getD words n []) → slotAwaits (slotOf (getD words n [])) (a .tail) (a .loopback) ≡ true → r ≡ true
-      → r ≡ (eqb (length bytes) 7 && leb (so .total + 7) (length (take (at + s .extent - at) (drop at store))))
+      → r ≡ leb (so .total + length bytes) (length (take (at + s .extent - at) (drop at store)))
       → part ≡ cond r (stored (so .total) bytes (take (at + s .extent - at) (drop at store))) (take (at + s .extent - at) (drop at store))
       → crc ≡ crcFrom (so .crc) bytes
-      → after ≡ set words n (wordsOn (getD words n []) (record { crc = crc; total = so .total + 7 }))
+      → after ≡ set words n (wordsOn (getD words n []) (record { crc = crc; total = so .total + length bytes }))
       → closes nothing after (putMid at (at + s .extent - at) store part) ≡ inWords s words store n a bytes
   short-way s words store n at so crc r {after} {part} place far aw took room hp hc ha =
       let e : ℕ = s .extent in
       let own : List ℕ = partOf e n store in
       let f = in-part bytes store e n at (so .total) r place took room in
       let b : part ≡ stored (progressIn (getD words n []) .total) bytes own = rw (took, lent-out e n store at place, far) at hp in
-      let t : so .total + 7 ≡ min (length own + 2) (progressIn (getD words n []) .total + length bytes) = omega (arith, ap (λ (y : Progress). y .total) far) in
+      let t : so .total + length bytes ≡ min (length own + 2) (progressIn (getD words n []) .total + length bytes) = omega (arith, ap (λ (y : Progress). y .total) far) in
       ap (λ (v : List (List ℕ)). closes nothing v (putMid at (at + e - at) store part)) ha
       ∙ ap (closes nothing _) (lent-back e n store part at place ∙ ap (withPart e n store) b)
-      ∙ sym (in-middle s words store n (record { crc = crc; total = so .total + 7 }) aw (hc ∙ ap (λ (y : Progress). crcFrom (y .crc) bytes) far) t)
+      ∙ sym (in-middle s words store n (record { crc = crc; total = so .total + length bytes }) aw (hc ∙ ap (λ (y : Progress). crcFrom (y .crc) bytes) far) t)
 
 -- ---- the frame of a source
 
@@ -157,11 +128,11 @@ module _ (s : Settings) (words : List (List ℕ)) (store : List ℕ) (f : Frame)
   abbrev Taken : Header → Type 0
   Taken h = accepted s words store f ≡ inWords s words store (f .id % nodes) (arrivalOf f h) (beforeTail (f .bytes))
 
-  ours : (h : Header) → length (f .bytes) ≡ 8 → parsedCanId (f .id) ≡ Parsed h → wants (s .port) h ≡ true → reading (s .port) f ≡ Ours (arrivalOf f h)
+  ours : (h : Header) → (0 < length (f .bytes)) × (length (f .bytes) ≤ greatestFrame) → parsedCanId (f .id) ≡ Parsed h → wants (s .port) h ≡ true → reading (s .port) f ≡ Ours (arrivalOf f h)
   unfolding reading
-  ours h eight e w =
+  ours h (some, few) e w =
       let z : eqb (length (f .bytes)) 0 ≡ false = ne-eqb (length (f .bytes)) 0 (λ q. omega arith) in
-      let l : leb (length (f .bytes)) greatestFrame ≡ true = le-leb (length (f .bytes)) greatestFrame (omega arith) in
+      let l : leb (length (f .bytes)) greatestFrame ≡ true = le-leb (length (f .bytes)) greatestFrame few in
       rw (z, l) (ap (addressed (s .port) f) e ∙ rw w)
 
   from : (h : Header) (o : Source) → nodes * s .extent ≤ length store → reading (s .port) f ≡ Ours (arrivalOf f h) → parsedCanId (f .id) ≡ Parsed h
@@ -174,12 +145,12 @@ module _ (s : Settings) (words : List (List ℕ)) (store : List ℕ) (f : Frame)
       ∙ ap (λ (o : Source). bySource o (arrivalOf f h) (beforeTail (f .bytes)) same (inWords s words store)) q
       ∙ ap (λ (i : ℕ). inWords s words store i (arrivalOf f h) (beforeTail (f .bytes))) (source-read (f .id) k h e q)
 
-  -- a frame of 8 bytes whose ID speaks to the port is one of the source that the ID names
-  pub of-source : nodes * s .extent ≤ length store → length (f .bytes) ≡ 8 → comesTo (s .port) (parsedCanId (f .id)) ≡ true → (h : Header) × Taken h
-  of-source room eight comes = go (parsedCanId (f .id)) refl comes
+  -- a frame of 1 to 64 bytes whose ID speaks to the port is one of the source that the ID names
+  pub of-source : nodes * s .extent ≤ length store → (0 < length (f .bytes)) × (length (f .bytes) ≤ greatestFrame) → comesTo (s .port) (parsedCanId (f .id)) ≡ true → (h : Header) × Taken h
+  of-source room long comes = go (parsedCanId (f .id)) refl comes
     where
       go : (p : ParsedCanId) → parsedCanId (f .id) ≡ p → comesTo (s .port) p ≡ true → (h : Header) × Taken h
       go (Refused r) e c = absurd (false≢true c)
       go (Parsed h) e c =
           let b = both-true (named (sourceIn h)) (wants (s .port) h) c in
-          (h, from h (sourceIn h) room (ours h eight e (b .1)) e refl (b .0))
+          (h, from h (sourceIn h) room (ours h long e (b .1)) e refl (b .0))

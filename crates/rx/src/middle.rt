@@ -1,6 +1,7 @@
-// The short way of the commonest frame: a full one of classic CAN in the middle of a transfer, which its source's session awaits and which fits the part whole. It is
-// told and taken with no header, arrival or slot made of it. What it leaves is what the long way would.
+// The short way of the commonest frame: one in the middle of a transfer, which its source's session awaits and which fits the part whole. It is told and taken with no
+// header, arrival or slot made of it. What it leaves is what the long way would.
 use crate::subscription;
+use rules::data::FRAME_CAPACITY;
 use rules::frame::Marks;
 use rules::subscription::Port;
 use rules::subscription::Settings;
@@ -9,21 +10,18 @@ use rules::types::CanNodeId;
 use slots::Progress;
 use slots::Slots;
 ghost use mathlib.Core.Path.{_≡_};
-ghost use mathlib.Core.Bool.{false, cond, _&&_};
+ghost use mathlib.Core.Bool.{false, cond};
 ghost use Prim.Native.Nat.{_+_, _*_, _<_, _≤_};
-ghost use lib.Dec.{eqb, leb};
+ghost use lib.Dec.{leb};
 ghost use lib.ListN.{length};
 ghost use Rattle.rules.specs.declared.receive.Arrival.{Arrival};
-ghost use Rattle.rules.specs.Limits.{nodes};
+ghost use Rattle.rules.specs.Limits.{nodes, greatestFrame};
 ghost use Rattle.rules.specs.Frames.{frame};
 ghost use Rattle.rules.specs.CanId.{parsedCanId};
 ghost use Rattle.rules.specs.Session.{stored};
 ghost use Rattle.rules.specs.Answers.{nothing};
 ghost use Rattle.wire.specs.Addressed.{comesTo};
 ghost use Rattle.rx.specs.Accept.{closes, inWords, accepted};
-
-// The bytes of a full frame, its tail byte among them.
-const FULL: usize = 8;
 
 // Takes the frame and answers nothing, as the long way does, or leaves all as it is and says so.
 pub(crate) fn joined(
@@ -36,10 +34,15 @@ pub(crate) fn joined(
     requires { ⌜ nodes * settings .extent ≤ length (now store) ⌝ }
     ensures { λ r. ⌜ closes nothing (now (slots .exit)) (now (store .exit)) ≡ cond r (accepted settings (now (slots .entry)) (now (store .entry)) (frame marks (now (bytes .entry)))) (closes nothing (now (slots .entry)) (now (store .entry))) ⌝ }
 {
-    if bytes.len() != FULL {
+    let len = bytes.len();
+    if len == 0 {
         return false;
     }
-    let last = bytes[FULL - 1];
+    if FRAME_CAPACITY < len {
+        return false;
+    }
+    let before = len - 1;
+    let last = bytes[before];
     let tail = wire::rx::parse_tail_byte(last);
     if tail.start {
         return false;
@@ -52,7 +55,6 @@ pub(crate) fn joined(
         return false;
     }
     let node = CanNodeId::from_truncating((marks.id % 256) as u8);
-    let before = FULL - 1;
     lay(
         settings,
         node,
@@ -93,7 +95,7 @@ fn lay(
     loopback: bool,
     bytes: &[u8],
 ) -> bool
-    requires { ⌜ (node .0 < nodes) × (nodes * settings .extent ≤ length (now store)) × (tail .start ≡ false) × (tail .end ≡ false) ⌝ }
+    requires { ⌜ (node .0 < nodes) × (nodes * settings .extent ≤ length (now store)) × (tail .start ≡ false) × (tail .end ≡ false) × (length (now bytes) < greatestFrame) ⌝ }
     ensures { λ r. ⌜ ((a : Arrival) → a .tail ≡ tail → a .loopback ≡ loopback → closes nothing (now (slots .exit)) (now (store .exit)) ≡ cond r (inWords settings (now (slots .entry)) (now (store .entry)) (node .0) a (now (bytes .entry))) (closes nothing (now (slots .entry)) (now (store .entry)))) ⌝ }
 {
     if !slots::awaits(slots, node, tail, loopback) {
@@ -108,7 +110,7 @@ fn lay(
         return false;
     }
     let crc = crc::digest_seven(so_far.crc, bytes);
-    let further = total + 7;
+    let further = total + bytes.len() as u32;
     slots::advance(
         slots,
         node,
@@ -120,14 +122,19 @@ fn lay(
     true
 }
 
-// Lays seven bytes behind the total that the part has; none where the part does not take them all. Says whether it did.
+// Lays the bytes behind the total that the part has; none where the part does not take them all. Says whether it did.
 fn into(part: &mut [u8], total: usize, bytes: &[u8]) -> bool
-    ensures { λ r. ⌜ r ≡ (eqb (length (now (bytes .entry))) 7 && leb (total + 7) (length (now (part .entry)))) ⌝ }
+    ensures { λ r. ⌜ r ≡ leb (total + length (now (bytes .entry))) (length (now (part .entry))) ⌝ }
     ensures { λ r. ⌜ now (part .exit) ≡ cond r (stored total (now (bytes .entry)) (now (part .entry))) (now (part .entry)) ⌝ }
 {
     let end = part.len();
     if end < total {
         return false;
     }
-    blocks::copy_seven(bytes, &mut part[total..end])
+    let room = end - total;
+    if room < bytes.len() {
+        return false;
+    }
+    blocks::copy_seven(bytes, &mut part[total..end]);
+    true
 }

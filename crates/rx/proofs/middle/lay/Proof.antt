@@ -75,6 +75,9 @@ returns-2 c x p q =
 digest-seven-requires : tie.Need-digest-seven-requires
 digest-seven-requires c κs = search needs
 
+cast-further : tie.Need-cast-further
+cast-further c = search needs
+
 add-further : tie.Need-add-further
 add-further c =
     let a = c .before .before .before .before .before .before .before .before .before .before .before .before .before .before .before .before .before .args in
@@ -84,7 +87,7 @@ add-further c =
     let n = a .node .0 in
     let h : e < 2 ^ 16 = search needs in
     let r = in-part (now (a .bytes)) (now (a .store)) e n (t .result) (c .before .before .before .before .before .before .so-far .result .total) (i .result) (t .ensures .0) (not-false _ (c .before .if2 .left)) (i .ensures .0) in
-    omega (arith, r .1, part-short e n (now (a .store)) h)
+    omega (arith, r, part-short e n (now (a .store)) h)
 
 advance-requires : tie.Need-advance-requires
 advance-requires c κs = search needs
@@ -125,6 +128,7 @@ lay-spec =
     same-length
     returns-2
     digest-seven-requires
+    cast-further
     add-further
     advance-requires
     same-length-2

@@ -28,12 +28,13 @@ use Rattle.rules.specs.CanId.{parsedCanId}
 use Rattle.rules.specs.Crc.{crcFrom}
 use Rattle.rules.specs.Frames.{Frame}
 use Rattle.rules.specs.Slot.{withSession, admitted}
+use Rattle.rules.specs.Sending.{unnamed}
 use Rattle.rules.specs.Session.{awaits, joined, stored}
 use Rattle.rules.specs.Answers.{Answer, nothing}
 use Rattle.rules.specs.Source.{Turn, leaves, continued, inSession, goesOn}
 use Rattle.rules.specs.Receiver.{wants, beforeTail, arrivalOf, addressed, reading, sourceIn, bySource, partOf, withPart}
 use Rattle.rules.proofs.Receiver.{source-read}
-use Rattle.wire.specs.Addressed.{named, comesTo}
+use Rattle.wire.specs.Addressed.{comesTo}
 use Rattle.slots.specs.declared.Progress.{Progress}
 use Rattle.slots.specs.Words.{wordsOf, slotOf}
 use Rattle.slots.specs.Middle.{sessionAwaits, slotAwaits, progressIn, sessionOn, wordsOn}
@@ -136,7 +137,7 @@ module _ (s : Settings) (words : List (List ℕ)) (store : List ℕ) (f : Frame)
       rw (z, l) (ap (addressed (s .port) f) e ∙ rw w)
 
   from : (h : Header) (o : Source) → nodes * s .extent ≤ length store → reading (s .port) f ≡ Ours (arrivalOf f h) → parsedCanId (f .id) ≡ Parsed h
-      → sourceIn h ≡ o → named o ≡ true → Taken h
+      → sourceIn h ≡ o → not (unnamed o) ≡ true → Taken h
   unfolding accepted
   from h Anonymous room r e q n = absurd (false≢true n)
   from h (Node k) room r e q n =
@@ -152,5 +153,5 @@ module _ (s : Settings) (words : List (List ℕ)) (store : List ℕ) (f : Frame)
       go : (p : ParsedCanId) → parsedCanId (f .id) ≡ p → comesTo (s .port) p ≡ true → (h : Header) × Taken h
       go (Refused r) e c = absurd (false≢true c)
       go (Parsed h) e c =
-          let b = both-true (named (sourceIn h)) (wants (s .port) h) c in
+          let b = both-true (not (unnamed (sourceIn h))) (wants (s .port) h) c in
           (h, from h (sourceIn h) room (ours h long e (b .1)) e refl (b .0))

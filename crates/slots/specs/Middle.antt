@@ -1,6 +1,6 @@
 -- A slot and a frame in the middle of a transfer, which is neither its start nor its end: whether the slot awaits it, how far its session is, and its words with the
 -- session one frame further.
-use Prim.Native.Nat.{ℕ, _/_, _%_}
+use Prim.Native.Nat.{ℕ}
 use mathlib.Core.Bool.{Bool, false, not, _&&_, Bool·beq}
 use mathlib.Core.List.{List}
 use lib.Dec.{eqb}
@@ -12,7 +12,7 @@ use Rattle.rules.specs.declared.slots.Open.the-variants.{Closed, With}
 use Rattle.rules.specs.declared.slots.Slot.{Slot}
 use Rattle.rules.specs.Slot.{withSession}
 use Rattle.slots.specs.declared.Progress.{Progress}
-use Rattle.slots.specs.Words.{wordsOf, slotOf}
+use Rattle.slots.specs.Words.{wordsOf, crcIn, slotOf}
 
 -- ---- awaited
 
@@ -29,7 +29,7 @@ slotAwaits slot tail loopback = eqb (tail .«transfer_id» .0) (slot .expected .
 
 -- how far the session in four words is, if there is one
 unfoldable pub progressIn : List ℕ → Progress
-progressIn w = record { crc = getD w 2 0 / 65536 % 65536; total = getD w 3 0 }
+progressIn w = record { crc = crcIn (getD w 2 0); total = getD w 3 0 }
 
 -- the session, this far: it has its start, and awaits the other toggle
 abbrev pub sessionOn : Session → Progress → Session

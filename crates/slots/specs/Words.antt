@@ -46,6 +46,10 @@ flagOf n = eqb (n % 2) 1
 abbrev pub lastTimeIn : ℕ → ℕ → LastTime
 lastTimeIn time marks = cond (flagOf (marks / 256)) (At time) Never
 
+-- the CRC in the marks
+abbrev pub crcIn : ℕ → ℕ
+crcIn marks = marks / 65536 % 65536
+
 abbrev pub sessionIn : ℕ → ℕ → ℕ → Open
 sessionIn stamp marks total =
     cond (flagOf (marks / 512))
@@ -54,7 +58,7 @@ sessionIn stamp marks total =
       loopback = flagOf (marks / 1024);
       «expect_start» = flagOf (marks / 2048);
       «expect_toggle» = flagOf (marks / 4096);
-      crc = marks / 65536 % 65536;
+      crc = crcIn marks;
       total = total;
     })
     Closed

@@ -1,5 +1,7 @@
 // Replays a fixed list of calls with the answers of the original, canadensis_can 0.6.0, on the real code, and counts the answers that are the same and the
 // others. The list is standard input; `tools/original answers` writes it.
+#![tactic(auto)]
+
 mod header;
 mod line;
 mod listen;

@@ -1,5 +1,7 @@
 // A copy of bytes by blocks of sixteen. The last block ends where the bytes end and may overlap the one before it, so that
 // no loop over single bytes is left. No public function has a `requires`.
+#![tactic(auto)]
+
 ghost use Rattle.std.specs.Prelude.{◌≡◌, ◌+◌, ◌≤◌, ◌<◌, length, get_or, set};
 ghost use Rattle.blocks.specs.Blocks.{four_at, with_four, over};
 ghost use Rattle.laws.specs.Laid.{laid};

@@ -1,6 +1,8 @@
 // The transfer CRC, CRC-16/CCITT-FALSE, eight bytes at a time and with no table: a number of eight bytes is moved past
 // the next eight by shifts and sums, and brought down to the register only once, at the end. No public function has a
 // `requires`.
+#![tactic(auto)]
+
 ghost use Rattle.std.specs.Prelude.{◌≡◌, ◌+◌, ◌-◌, ◌/◌, ◌%◌, ◌^◌, ◌≤◌, ◌<◌, length, get_or, drop};
 ghost use Rattle.rules.specs.Crc.{crc_bits, crc_byte, crc_from};
 ghost use Rattle.crc.specs.Wide.{value, wide};

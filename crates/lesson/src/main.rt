@@ -1,5 +1,7 @@
 // The lesson of the lost term. A class once recorded zeros for a term: one dark scan went through twice on the cable, the display took the second for the sample,
 // and dark less dark is zero. Here it happens again on a desk: a detector, a lamp and a second detector share a bad cable with a display.
+#![tactic(auto)]
+
 mod cable;
 mod desk;
 mod show;

@@ -1,6 +1,8 @@
 // A queue of CAN frames, smallest ID first, after queue/array_queue.rs: a ring in places that the caller lends with each call. A state whose head is outside
 // the ring, that has more queued than its capacity, a capacity over the limit or fewer places lent than its capacity has nothing queued and no free place.
 // No public function has a `requires`.
+#![tactic(auto)]
+
 ghost use Rattle.std.specs.Prelude.{◌≡◌, List, ℕ, ◌<◌, eqb, length};
 ghost use Rattle.rules.specs.Limits.{greatest_capacity};
 ghost use Rattle.rules.specs.Frames.{frame};

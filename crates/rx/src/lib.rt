@@ -1,5 +1,7 @@
 // Receiving, after the original's files: rx/subscription.rs in the module of its name, rx/session.rs and rx/buildup.rs in crate `session`, and in lib.rt the bytes
 // that an answer names. The caller lends 128 slots and the store with each call. No public function has a `requires`.
+#![tactic(auto)]
+
 ghost use Rattle.std.specs.Prelude.{◌≡◌};
 ghost use Rattle.rules.specs.Answers.{answer_of, leading, part_shown, shown};
 

@@ -1,5 +1,7 @@
 // A frame at its source's slot, after rx/session.rs and rx/buildup.rs: what the slot becomes, what its part of the store gets, and the answer. Where the slot and
 // the part lie, and how many there are, is not known here. No public function has a `requires`.
+#![tactic(auto)]
+
 ghost use Rattle.std.specs.Prelude.{◌≡◌, ◌&&◌, ◌<◌, length};
 ghost use Rattle.rules.specs.Slot.{with_session, settled};
 ghost use Rattle.rules.specs.Session.{opened, session_for, awaits, complete};

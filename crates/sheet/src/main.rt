@@ -1,5 +1,7 @@
 // The bench sheet on the real code: runs its cases, the published CRC vectors and the worked examples of the Cyphal Specification, and prints for each what
 // the code gives. A row that is not as the sheet or the document says is marked WRONG, and counted.
+#![tactic(auto)]
+
 mod cases;
 mod examples;
 mod print;

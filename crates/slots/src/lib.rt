@@ -1,5 +1,7 @@
 // A slot in the four words that the caller lends for it, and back. What each word and bit is for stands in specs/Words.antt, and is known here alone. No public
 // function has a `requires`.
+#![tactic(auto)]
+
 ghost use Rattle.std.specs.Prelude.{◌≡◌, true, [], ◌<◌, ◌/◌, ◌%◌, ◌^◌, get_or, set};
 ghost use Rattle.rules.specs.Slot.{fresh_slot};
 ghost use Rattle.slots.specs.Words.{time_words, session_marks, session_words, words_of, flag_of, last_time_in, session_in, slot_of};

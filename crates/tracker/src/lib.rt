@@ -1,5 +1,7 @@
 // The transfer-ID tracker, after lib.rs: the 128 destinations' numbers, five bits each, in a row of 640 bits, twenty words of 32.
 // No public function has a `requires`.
+#![tactic(auto)]
+
 ghost use Rattle.std.specs.Prelude.{◌≡◌, ℕ, ◌+◌, ◌*◌, ◌<◌, ◌≤◌};
 ghost use Rattle.rules.specs.Limits.{greatest_node, transfer_ids};
 ghost use Rattle.rules.specs.Tracker.{fresh_numbers};

@@ -1,5 +1,7 @@
 // Sending, after tx.rs: a transfer is judged, cut into frames, and put into the queue, all or none. The queue is known by its promises alone. No public
 // function has a `requires`.
+#![tactic(auto)]
+
 ghost use Rattle.std.specs.Prelude.{◌≡◌, ◌-◌};
 ghost use Rattle.rules.specs.declared.send.Judged.TheVariants.{Goes, Refused};
 ghost use Rattle.rules.specs.declared.send.Sending.TheVariants.{Done, Refused as NotDone};

@@ -1,5 +1,7 @@
 // The wire: CAN IDs, tail bytes, frame lengths and the frame plan, after the original's files: lib.rs here, tx.rs, tx/breakdown.rs and rx.rs in modules
 // of their names. No public function has a `requires`.
+#![tactic(auto)]
+
 ghost use Rattle.std.specs.Prelude.{◌≡◌, ◌+◌, ◌-◌, ◌/◌, ◌≤◌, ◌<◌, max};
 ghost use Rattle.rules.specs.Limits.{greatest_payload, room_of};
 ghost use Rattle.rules.specs.Plan.{next_length, crc_length, up_to, stats_of, planned};

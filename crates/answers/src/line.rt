@@ -10,14 +10,14 @@ use tx::CanTransmitter;
 
 pub(crate) type Places = [Place; 256];
 
-#[derive(Drop)]
+#[derive(Clone, Copy)]
 pub(crate) struct Line {
     pub queue: ArrayQueue,
     pub transmitter: CanTransmitter,
 }
 
 // The line after a call, and whether the answer is the original's.
-#[derive(Drop)]
+#[derive(Clone, Copy)]
 pub(crate) struct Told {
     pub line: Line,
     pub right: bool,

@@ -12,7 +12,7 @@ use slots::Slots;
 pub(crate) type Store = [u8; 131072];
 
 // The subscription after a call, and whether the answer is the original's.
-#[derive(Drop)]
+#[derive(Clone, Copy)]
 pub(crate) struct Heard {
     pub subscription: Subscription,
     pub right: bool,

@@ -23,7 +23,7 @@ use tracker::CanTransferIdTracker;
 use tx::CanTransmitter;
 
 // What the calls change, beside what is lent to them.
-#[derive(Drop)]
+#[derive(Clone, Copy)]
 struct Desk {
     tracker: CanTransferIdTracker,
     line: Line,
@@ -31,7 +31,7 @@ struct Desk {
 }
 
 // The desk after a call, and whether the answer is the original's.
-#[derive(Drop)]
+#[derive(Clone, Copy)]
 struct Replayed {
     desk: Desk,
     right: bool,

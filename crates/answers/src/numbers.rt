@@ -7,7 +7,7 @@ use rules::types::{CanNodeId, TriedCanTransferId};
 use tracker::CanTransferIdTracker;
 
 // The tracker after a call, and whether the answer is the original's.
-#[derive(Drop)]
+#[derive(Clone, Copy)]
 pub(crate) struct Numbered {
     pub tracker: CanTransferIdTracker,
     pub right: bool,

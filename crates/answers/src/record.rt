@@ -2,7 +2,7 @@
 use libc::STDIN_FILENO;
 
 // A call with the original's answer; what the words say depends on the kind.
-#[derive(Drop)]
+#[derive(Clone, Copy)]
 pub(crate) struct Record {
     pub kind: u8,
     // what is answered, and the number of the refusal

@@ -24,7 +24,7 @@ fn set_at(dst: &mut [u8], i: usize, k: usize, b: u8)
 }
 
 // Four bytes on their way.
-#[derive(Drop)]
+#[derive(Clone, Copy)]
 struct Four {
     a: u8,
     b: u8,

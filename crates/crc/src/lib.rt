@@ -86,7 +86,7 @@ fn rest(x: u64, top: u64) -> u16
 }
 
 // A number and its upper half.
-#[derive(Drop)]
+#[derive(Clone, Copy)]
 struct Seven {
     x: u64,
     top: u64,
@@ -151,7 +151,7 @@ fn front(crc: u16, s: &[u8], k: usize) -> u16
 }
 
 // A number that stands for the register after the first bytes, and how many these were.
-#[derive(Drop)]
+#[derive(Clone, Copy)]
 struct Begun {
     x: u64,
     taken: usize,

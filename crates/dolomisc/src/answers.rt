@@ -18,7 +18,7 @@ pub const NOT_OURS: u8 = 3;
 pub const REFUSED: u8 = 4;
 
 #[repr(C)]
-#[derive(Drop)]
+#[derive(Clone, Copy)]
 pub struct Answer {
     pub what: u8,
     pub refusal: u8,

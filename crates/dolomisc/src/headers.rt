@@ -21,7 +21,7 @@ pub const NO_NODE: u8 = 255;
 pub const NO_SUBJECT: u16 = 65535;
 
 #[repr(C)]
-#[derive(Drop)]
+#[derive(Clone, Copy)]
 pub struct FlatHeader {
     pub port: u16,
     pub kind: u8,
@@ -31,7 +31,7 @@ pub struct FlatHeader {
 }
 
 #[repr(C)]
-#[derive(Drop)]
+#[derive(Clone, Copy)]
 pub struct FlatMarks {
     pub stamp: u32,
     pub id: u32,

@@ -16,7 +16,7 @@ use queue::{ArrayQueue, Held, MadeQueue, Place};
 
 // A frame that was found, its bytes the first `length`; or none, and then every field but `what` is zero.
 #[repr(C)]
-#[derive(Drop)]
+#[derive(Clone, Copy)]
 pub struct Frame {
     pub length: usize,
     pub marks: FlatMarks,

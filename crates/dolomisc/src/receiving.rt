@@ -21,7 +21,7 @@ pub const IN_STORE: u8 = 1;
 
 // What making gives. The caller keeps it and hands it in with each frame.
 #[repr(C)]
-#[derive(Drop)]
+#[derive(Clone, Copy)]
 pub struct FlatSubscription {
     pub timeout: u32,
     pub port: u16,
@@ -32,7 +32,7 @@ pub struct FlatSubscription {
 
 // A subscription, or why there is none; what stands in the place of one is of no kind.
 #[repr(C)]
-#[derive(Drop)]
+#[derive(Clone, Copy)]
 pub struct FlatSubscribed {
     pub subscription: FlatSubscription,
     pub what: u8,
@@ -41,7 +41,7 @@ pub struct FlatSubscribed {
 
 // Bytes of the frame or of the store: from which on, and how many.
 #[repr(C)]
-#[derive(Drop)]
+#[derive(Clone, Copy)]
 pub struct Span {
     pub start: usize,
     pub length: usize,
@@ -50,7 +50,7 @@ pub struct Span {
 
 // What a frame is answered. All fields but `what` and `refusal` are a delivery's, and zero where there is none.
 #[repr(C)]
-#[derive(Drop)]
+#[derive(Clone, Copy)]
 pub struct FlatReceived {
     pub span: Span,
     pub stamp: u32,

@@ -19,7 +19,7 @@ use tracker::CanTransferIdTracker;
 use tx::CanTransmitter;
 
 #[repr(C)]
-#[derive(Drop)]
+#[derive(Clone, Copy)]
 pub struct FlatTransfer {
     pub header: FlatHeader,
     pub transfer_id: u8,
@@ -29,7 +29,7 @@ pub struct FlatTransfer {
 
 // A transfer ID, or why there is none.
 #[repr(C)]
-#[derive(Drop)]
+#[derive(Clone, Copy)]
 pub struct Given {
     pub what: u8,
     pub refusal: u8,
@@ -38,7 +38,7 @@ pub struct Given {
 
 // The plan of a payload, or why there is none.
 #[repr(C)]
-#[derive(Drop)]
+#[derive(Clone, Copy)]
 pub struct Plan {
     pub frames: usize,
     pub padding: usize,

@@ -10,7 +10,7 @@ use slots::Slots;
 pub(crate) type Store = [u8; 4096];
 
 // What the display has answered so far.
-#[derive(Drop)]
+#[derive(Clone, Copy)]
 pub(crate) struct Tally {
     pub delivered: u64,
     pub refused: u64,

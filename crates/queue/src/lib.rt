@@ -27,7 +27,7 @@ pub const PLACE: usize = 76;
 pub type Place = [u8; PLACE];
 
 // The head of the queue is at index `head` of the lent places. Other frames are at increasing indices, which wrap around at `capacity`.
-#[derive(Drop)]
+#[derive(Clone, Copy)]
 pub struct ArrayQueue {
     pub head: usize,
     // the number of frames in the queue
@@ -35,21 +35,21 @@ pub struct ArrayQueue {
     pub capacity: usize,
 }
 
-#[derive(Drop)]
+#[derive(Clone, Copy)]
 pub enum MadeQueue {
     Made(ArrayQueue),
     Refused(Refusal),
 }
 
 // The queue after a frame was to be placed, and the answer.
-#[derive(Drop)]
+#[derive(Clone, Copy)]
 pub struct Pushed {
     pub queue: ArrayQueue,
     pub answer: Placing,
 }
 
 // A frame that was found, its bytes the first `length`; or none, and then every field is zero.
-#[derive(Drop)]
+#[derive(Clone, Copy)]
 pub struct Held {
     pub found: bool,
     pub marks: Marks,
@@ -58,7 +58,7 @@ pub struct Held {
 }
 
 // The queue after its first frame left, and that frame.
-#[derive(Drop)]
+#[derive(Clone, Copy)]
 pub struct Popped {
     pub queue: ArrayQueue,
     pub held: Held,

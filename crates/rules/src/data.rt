@@ -17,10 +17,10 @@ pub const EXTENT_MAX: u16 = 1024;
 pub const CAPACITY_MAX: usize = 256;
 
 // A CAN ID of 29 bits.
-#[derive(Drop)]
+#[derive(Clone, Copy)]
 pub struct CanId(pub u32);
 
-#[derive(Drop)]
+#[derive(Clone, Copy)]
 pub enum TriedCanId {
     Valid(CanId),
     Refused(Refusal),
@@ -50,13 +50,13 @@ impl CanId {
 }
 
 // The greatest number of bytes that one frame carries: 8 for standard CAN, 64 for CAN FD.
-#[derive(Drop)]
+#[derive(Clone, Copy)]
 pub enum Mtu {
     Can8,
     CanFd64,
 }
 
-#[derive(Drop)]
+#[derive(Clone, Copy)]
 pub enum TriedMtu {
     Valid(Mtu),
     Refused(Refusal),

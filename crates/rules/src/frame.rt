@@ -1,5 +1,5 @@
 // What a frame bears besides its bytes, which stand beside it in a slice.
-#[derive(Drop)]
+#[derive(Clone, Copy)]
 pub struct Marks {
     // in microseconds, of 32 bits
     pub stamp: u32,

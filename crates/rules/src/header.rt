@@ -3,13 +3,13 @@ use crate::data::CanId;
 use crate::refusal::Refusal;
 use crate::types::{CanNodeId, Priority, ServiceId, SubjectId};
 
-#[derive(Drop)]
+#[derive(Clone, Copy)]
 pub enum Source {
     Node(CanNodeId),
     Anonymous,
 }
 
-#[derive(Drop)]
+#[derive(Clone, Copy)]
 pub struct MessageHeader {
     pub priority: Priority,
     pub subject: SubjectId,
@@ -17,7 +17,7 @@ pub struct MessageHeader {
 }
 
 // A service transfer must have a source; one without is taken, and refused by 12.
-#[derive(Drop)]
+#[derive(Clone, Copy)]
 pub struct ServiceHeader {
     pub priority: Priority,
     pub service: ServiceId,
@@ -26,7 +26,7 @@ pub struct ServiceHeader {
     pub destination: CanNodeId,
 }
 
-#[derive(Drop)]
+#[derive(Clone, Copy)]
 pub enum Header {
     Message(MessageHeader),
     Request(ServiceHeader),
@@ -34,14 +34,14 @@ pub enum Header {
 }
 
 // The CAN ID of a header, or why there is none.
-#[derive(Drop)]
+#[derive(Clone, Copy)]
 pub enum MadeCanId {
     Made(CanId),
     Refused(Refusal),
 }
 
 // The header that a CAN ID says, or why it says none.
-#[derive(Drop)]
+#[derive(Clone, Copy)]
 pub enum ParsedCanId {
     Parsed(Header),
     Refused(Refusal),

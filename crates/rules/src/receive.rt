@@ -5,7 +5,7 @@ use crate::tail::TailByte;
 use crate::types::CanTransferId;
 
 // A frame whose CAN ID and tail byte are read; its bytes before the tail stand beside it in a slice.
-#[derive(Drop)]
+#[derive(Clone, Copy)]
 pub struct Arrival {
     pub header: Header,
     pub tail: TailByte,
@@ -14,7 +14,7 @@ pub struct Arrival {
 }
 
 // What a frame is to a subscription, the slots left aside.
-#[derive(Drop)]
+#[derive(Clone, Copy)]
 pub enum Reading {
     Ours(Arrival),
     NotOurs,
@@ -22,13 +22,13 @@ pub enum Reading {
 }
 
 // Where the bytes of a delivery lie: at the front of the frame, or in the store.
-#[derive(Drop)]
+#[derive(Clone, Copy)]
 pub enum Part {
     OfFrame { len: usize },
     OfStore { start: usize, len: usize },
 }
 
-#[derive(Drop)]
+#[derive(Clone, Copy)]
 pub struct Delivery {
     // of the last frame
     pub header: Header,
@@ -39,7 +39,7 @@ pub struct Delivery {
     pub part: Part,
 }
 
-#[derive(Drop)]
+#[derive(Clone, Copy)]
 pub enum Received {
     Delivered(Delivery),
     Nothing,

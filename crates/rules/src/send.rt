@@ -6,7 +6,7 @@ use crate::stats::FrameStats;
 use crate::types::CanTransferId;
 
 // A transfer; its payload stands beside it in a slice.
-#[derive(Drop)]
+#[derive(Clone, Copy)]
 pub struct Transfer {
     pub header: Header,
     pub transfer_id: CanTransferId,
@@ -16,20 +16,20 @@ pub struct Transfer {
 }
 
 // How a transfer goes out: in frames of this size, under this ID, by this plan.
-#[derive(Drop)]
+#[derive(Clone, Copy)]
 pub struct Outgoing {
     pub mtu: Mtu,
     pub id: CanId,
     pub stats: FrameStats,
 }
 
-#[derive(Drop)]
+#[derive(Clone, Copy)]
 pub enum Judged {
     Goes(Outgoing),
     Refused(Refusal),
 }
 
-#[derive(Drop)]
+#[derive(Clone, Copy)]
 pub enum Sending {
     Done,
     Refused(Refusal),

@@ -2,14 +2,14 @@
 use crate::types::CanTransferId;
 
 // The stamp that the last delivered transfer had, if there was one.
-#[derive(Drop)]
+#[derive(Clone, Copy)]
 pub enum LastTime {
     Never,
     At(u32),
 }
 
 // A transfer of several frames that is under way.
-#[derive(Drop)]
+#[derive(Clone, Copy)]
 pub struct Session {
     // of its first frame
     pub stamp: u32,
@@ -23,13 +23,13 @@ pub struct Session {
     pub total: u32,
 }
 
-#[derive(Drop)]
+#[derive(Clone, Copy)]
 pub enum Open {
     Closed,
     With(Session),
 }
 
-#[derive(Drop)]
+#[derive(Clone, Copy)]
 pub struct Slot {
     pub expected: CanTransferId,
     pub last_time: LastTime,
@@ -37,7 +37,7 @@ pub struct Slot {
 }
 
 // What the ID rule says of a frame: a repeat, which changes nothing, or go on with this slot.
-#[derive(Drop)]
+#[derive(Clone, Copy)]
 pub enum Admitted {
     Repeat,
     On(Slot),

@@ -1,7 +1,7 @@
 // How a payload is cut into frames, after lib.rs.
 use crate::refusal::Refusal;
 
-#[derive(Drop)]
+#[derive(Clone, Copy)]
 pub struct FrameStats {
     // all frames of the transfer
     pub frames: usize,
@@ -9,7 +9,7 @@ pub struct FrameStats {
     pub last_frame_padding: usize,
 }
 
-#[derive(Drop)]
+#[derive(Clone, Copy)]
 pub enum Planned {
     Stats(FrameStats),
     Refused(Refusal),

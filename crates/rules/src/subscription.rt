@@ -3,21 +3,21 @@ use crate::refusal::Refusal;
 use crate::types::{CanNodeId, ServiceId, SubjectId};
 
 // A service at this node, to which its transfers go.
-#[derive(Drop)]
+#[derive(Clone, Copy)]
 pub struct ServicePort {
     pub service: ServiceId,
     pub node: CanNodeId,
 }
 
 // The kind of transfer and its port. Any number can stand in it, and is judged at making.
-#[derive(Drop)]
+#[derive(Clone, Copy)]
 pub enum Port {
     Message(SubjectId),
     Request(ServicePort),
     Response(ServicePort),
 }
 
-#[derive(Drop)]
+#[derive(Clone, Copy)]
 pub struct Settings {
     pub port: Port,
     // in microseconds: how long a transfer ID that comes again is taken for a repeat
@@ -27,7 +27,7 @@ pub struct Settings {
 }
 
 // The settings of a subscription, or why there is none.
-#[derive(Drop)]
+#[derive(Clone, Copy)]
 pub enum Subscribing {
     Made(Settings),
     Refused(Refusal),

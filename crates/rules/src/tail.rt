@@ -1,7 +1,7 @@
 // The tail byte's four fields.
 use crate::types::CanTransferId;
 
-#[derive(Drop)]
+#[derive(Clone, Copy)]
 pub struct TailByte {
     pub start: bool,
     pub end: bool,

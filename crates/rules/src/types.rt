@@ -4,46 +4,46 @@ ghost use Rattle.rules.specs.Limits.{greatest_priority, greatest_subject, greate
 
 use crate::refusal::Refusal;
 
-#[derive(Drop)]
+#[derive(Clone, Copy)]
 pub struct Priority(pub u8);
 
-#[derive(Drop)]
+#[derive(Clone, Copy)]
 pub struct SubjectId(pub u16);
 
-#[derive(Drop)]
+#[derive(Clone, Copy)]
 pub struct ServiceId(pub u16);
 
-#[derive(Drop)]
+#[derive(Clone, Copy)]
 pub struct CanNodeId(pub u8);
 
-#[derive(Drop)]
+#[derive(Clone, Copy)]
 pub struct CanTransferId(pub u8);
 
-#[derive(Drop)]
+#[derive(Clone, Copy)]
 pub enum TriedPriority {
     Valid(Priority),
     Refused(Refusal),
 }
 
-#[derive(Drop)]
+#[derive(Clone, Copy)]
 pub enum TriedSubjectId {
     Valid(SubjectId),
     Refused(Refusal),
 }
 
-#[derive(Drop)]
+#[derive(Clone, Copy)]
 pub enum TriedServiceId {
     Valid(ServiceId),
     Refused(Refusal),
 }
 
-#[derive(Drop)]
+#[derive(Clone, Copy)]
 pub enum TriedCanNodeId {
     Valid(CanNodeId),
     Refused(Refusal),
 }
 
-#[derive(Drop)]
+#[derive(Clone, Copy)]
 pub enum TriedCanTransferId {
     Valid(CanTransferId),
     Refused(Refusal),

@@ -19,12 +19,12 @@ use rules::types::{CanNodeId, CanTransferId};
 use slots::Slots;
 
 // The slots and the store are lent with each call, the same ones.
-#[derive(Drop)]
+#[derive(Clone, Copy)]
 pub struct Subscription {
     pub settings: Settings,
 }
 
-#[derive(Drop)]
+#[derive(Clone, Copy)]
 pub enum Subscribed {
     Made(Subscription),
     Refused(Refusal),

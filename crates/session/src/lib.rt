@@ -19,7 +19,7 @@ mod buildup;
 const PART_MAX: usize = 0xFFFF;
 
 // The slot afterwards, and the answer; a delivery's bytes in the store are counted from the start of the part.
-#[derive(Drop)]
+#[derive(Clone, Copy)]
 pub struct Step {
     pub slot: Slot,
     pub answer: Received,

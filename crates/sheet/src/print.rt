@@ -1,7 +1,7 @@
 // What is printed, and how many rows were right.
 use libc::STDOUT_FILENO;
 
-#[derive(Drop)]
+#[derive(Clone, Copy)]
 pub(crate) struct Tally {
     pub right: u64,
     pub wrong: u64,

@@ -135,7 +135,7 @@ pub(crate) fn repeat(tally: Tally) -> Tally {
 }
 
 // Cases 10 and 11: the answers to a single frame with ID 3, to a middle frame with ID 9, and to the frame that comes then, all in time.
-#[derive(Drop)]
+#[derive(Clone, Copy)]
 struct Answers {
     single: Received,
     middle: Received,

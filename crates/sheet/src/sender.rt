@@ -9,7 +9,7 @@ use rules::types::{CanNodeId, CanTransferId};
 use tx::CanTransmitter;
 
 // The tally and the queue after a row.
-#[derive(Drop)]
+#[derive(Clone, Copy)]
 struct Shown {
     tally: Tally,
     queue: ArrayQueue,

@@ -15,14 +15,14 @@ use rules::types::{CanNodeId, CanTransferId};
 pub type Slots = [[u32; 4]; 128];
 
 // The last time, and its bit of the marks.
-#[derive(Drop)]
+#[derive(Clone, Copy)]
 pub(crate) struct TimeWords {
     time: u32,
     mark: u32,
 }
 
 // The session's words, its bits of the marks among them.
-#[derive(Drop)]
+#[derive(Clone, Copy)]
 pub(crate) struct SessionWords {
     stamp: u32,
     marks: u32,
@@ -30,7 +30,7 @@ pub(crate) struct SessionWords {
 }
 
 // How far a session is: its CRC and its byte total.
-#[derive(Drop)]
+#[derive(Clone, Copy)]
 pub struct Progress {
     pub crc: u16,
     pub total: u32,

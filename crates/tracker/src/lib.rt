@@ -10,13 +10,13 @@ ghost use Rattle.tracker.specs.Row.{words, row_of, asked};
 
 use rules::types::{CanNodeId, CanTransferId, TriedCanNodeId, TriedCanTransferId};
 
-#[derive(Drop)]
+#[derive(Clone, Copy)]
 pub struct CanTransferIdTracker {
     pub ids: [u32; 20],
 }
 
 // The tracker after asking it, and what it answered.
-#[derive(Drop)]
+#[derive(Clone, Copy)]
 pub struct Asked {
     pub tracker: CanTransferIdTracker,
     pub answer: TriedCanTransferId,

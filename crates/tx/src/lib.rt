@@ -18,7 +18,7 @@ mod breakdown;
 mod judge;
 mod put;
 
-#[derive(Drop)]
+#[derive(Clone, Copy)]
 pub struct CanTransmitter {
     // the bytes of a frame, the tail byte with them; any number can stand here
     pub mtu: usize,
@@ -28,7 +28,7 @@ pub struct CanTransmitter {
 }
 
 // The transmitter and the queue after a send, and the answer.
-#[derive(Drop)]
+#[derive(Clone, Copy)]
 pub struct Sent {
     pub transmitter: CanTransmitter,
     pub queue: ArrayQueue,

@@ -1,25 +1,8 @@
 -- The CRC, the three flags and the session's own bit do not overlap, so that they add up.
-use mathlib.Core.Path.{◌≡◌, refl}
-use Prim.Native.Nat.{ℕ, ◌+◌, ◌*◌, ◌%◌, ◌^◌, ◌≤◌, ◌<◌}
-use native.Mathlib.Omega.{arith}
-use lib.Bits.{bit_or}
+use Rattle.std.proofs.Common.{rules, ◌≡◌, refl, ℕ, ◌+◌, ◌*◌, ◌%◌, ◌^◌, ◌≤◌, ◌<◌, arith, bit_or}
 use Rattle.laws.proofs.Bits.{join, flag, flag_le}
 use Rattle.slots.specs.Words.{session_marks}
-use borrow.Author.Rules.{rules}
-use Rattle.slots.proofs.session_marks.Statement.{statement}
-use Rattle.slots.proofs.session_marks.Tie as tie
-
-cast-result : tie.Need-overflow-cast-result
-cast-result c = search rules
-
-cast-result-2 : tie.Need-overflow-cast-result-2
-cast-result-2 c = search rules
-
-cast-result-3 : tie.Need-overflow-cast-result-3
-cast-result-3 c = search rules
-
-cast-result-4 : tie.Need-overflow-cast-result-4
-cast-result-4 c = search rules
+use Rattle.slots.proofs.session_marks.Goals as goal
 
 -- what the machine computes for the CRC c and flags t, s, l
 joined : (c t s l : ℕ) → c < 2 ^ 16 → t ≤ 1 → s ≤ 1 → l ≤ 1
@@ -31,15 +14,12 @@ joined c t s l hc ht hs hl =
     let k = join 11 _ (l * 2 ^ 10 % 2 ^ 32) _ (l * 2 ^ 10) j (omega arith) (omega arith) (omega arith) in
     join 10 _ 512 _ 512 k refl (omega arith) (omega arith)
 
-returns : tie.Need-returns
+pub returns : goal.returns
 unfolding session_marks
 returns c =
-    let s = c.before.before.before.before.args.s in
+    let s = c.args.s in
     let h : s.crc < 2 ^ 16 = search rules in
     let t = flag_le s.expect_toggle in
     let b = flag_le s.expect_start in
     let l = flag_le s.loopback in
     rw (flag s.expect_toggle, flag s.expect_start, flag s.loopback, joined s.crc _ _ _ h t b l) (omega arith, omega arith, omega arith)
-
-pub session_marks_spec : {M : Type 1} → statement M
-session_marks_spec = tie.close (tie.spec cast-result cast-result-2 cast-result-3 cast-result-4 returns)

@@ -1,0 +1,6 @@
+use Rattle.slots.specs.Words.{slot_of}
+use Rattle.slots.proofs.unpack.Goals as goal
+
+pub returns : goal.returns
+unfolding slot_of
+returns c = simp (c.last_time_in-last_time.ensures, c.session_in-session.ensures)

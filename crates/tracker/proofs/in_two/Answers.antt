@@ -8,7 +8,7 @@ use Rattle.laws.proofs.Digits.{none_digits, cons_digits}
 use Rattle.laws.proofs.Parts.{value_at}
 use Rattle.rules.specs.declared.types.TriedCanTransferId.TheVariants.{Valid}
 use Rattle.tracker.specs.Row.{word_base, Sound}
-use Rattle.tracker.proofs.Row.{stepped, step_lt}
+use Rattle.tracker.proofs.Row.{stepped}
 use Rattle.tracker.proofs.in_two.Goals as goal
 
 pub returns : goal.returns

@@ -160,8 +160,8 @@ struct Begun {
 // The odd bytes go in first, and where they are not seven, the next eight.
 fn begin(crc: u16, s: &[u8]) -> Begun
     requires { 8 ≤ length s.now }
-    ensures s_value { crc_from (wide 8 result.x) (drop result.taken s.now) ≡ crc_from crc s.now }
-    ensures taken_in_bounds { (result.taken ≤ length s.now) × ((length s.now - result.taken) % 8 ≡ 0) }
+    ensures same_register { crc_from (wide 8 result.x) (drop result.taken s.now) ≡ crc_from crc s.now }
+    ensures eights_left { (result.taken ≤ length s.now) × ((length s.now - result.taken) % 8 ≡ 0) }
 {
     let odd = s.len() % 8;
     if odd == 7 {

@@ -5,7 +5,6 @@ use Prim.Native.Nat.{ℕ}
 use lib.Dec.{leb, eqb}
 use Rattle.rules.specs.declared.refusal.Refusal.TheVariants.{CanId as CanIdTooLarge, ReservedBit}
 use Rattle.rules.specs.declared.types.CanNodeId.{CanNodeId}
-use Rattle.rules.specs.declared.types.Priority.{Priority}
 use Rattle.rules.specs.declared.types.ServiceId.{ServiceId}
 use Rattle.rules.specs.declared.types.SubjectId.{SubjectId}
 use Rattle.rules.specs.declared.header.Source.TheVariants.{Node, Anonymous}

@@ -11,6 +11,7 @@ use rules::tail::TailByte;
 use rules::types::{CanNodeId, CanTransferId, Priority, ServiceId, SubjectId};
 
 // The header that a received CAN ID says. 2^29 or more: refusal 1; a reserved bit: refusal 4. Bits 21 and 22 are not looked at.
+#[tactic(auto, unfolding(rules::specs::CanId::parsed_can_id))]
 pub fn parse_can_id(id: u32) -> ParsedCanId
     ensures { result ≡ parsed_can_id id }
 {
@@ -39,6 +40,7 @@ fn parse_header(id: u32) -> ParsedCanId
 }
 
 // Whether a CAN ID says a message to this subject, from a source that is named. No header is made.
+#[tactic(auto, using(crate::proofs::Addressed::message_said))]
 pub fn is_message_to(id: u32, subject: SubjectId) -> bool
     ensures { result ≡ message_to subject (parsed_can_id id) }
 {
@@ -65,6 +67,7 @@ pub fn is_message_to(id: u32, subject: SubjectId) -> bool
 }
 
 // Whether a CAN ID says a request, or else a response, of this service to this node. No header is made.
+#[tactic(auto, using(crate::proofs::Addressed::service_said))]
 pub fn is_service_to(id: u32, request: bool, service: ServiceId, node: CanNodeId) -> bool
     ensures { result ≡ service_to request service node (parsed_can_id id) }
 {

@@ -9,6 +9,7 @@ use rules::refusal::Refusal;
 use rules::types::{CanNodeId, Priority, SubjectId};
 
 // The CAN ID under which a transfer is sent. A field out of its limits, or a service transfer with no source: refusal 12.
+#[tactic(auto, unfolding(rules::specs::CanId::can_id_of))]
 pub fn make_can_id(header: Header, payload: &[u8]) -> MadeCanId
     ensures { result ≡ can_id_of header payload.now }
 {

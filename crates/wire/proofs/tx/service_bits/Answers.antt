@@ -1,15 +1,7 @@
 -- The fields of a service transfer do not overlap, so that they add up.
-use mathlib.Core.Path.{◌≡◌, refl}
-use Prim.Native.Nat.{ℕ, ◌+◌, ◌*◌, ◌%◌, ◌^◌, ◌≤◌}
-use native.Mathlib.Omega.{arith}
-use lib.Bits.{bit_or}
+use Rattle.std.proofs.Common.{◌≡◌, ℕ, ◌+◌, ◌*◌, ◌%◌, ◌^◌, ◌≤◌, refl, bit_or, arith}
 use Rattle.laws.proofs.Bits.{join, flag, flag_le}
-use borrow.Author.Rules.{rules}
-use Rattle.wire.proofs.tx.service_bits.Statement.{statement}
-use Rattle.wire.proofs.tx.service_bits.Tie as tie
-
-cast-result : tie.Need-overflow-cast-result
-cast-result c = search rules
+use Rattle.wire.proofs.tx.service_bits.Goals as goal
 
 -- what the machine computes for priority p, flag q, service s, destination d and source n
 joined : (p q s d n : ℕ) → p ≤ 7 → q ≤ 1 → s ≤ 511 → d ≤ 127 → n ≤ 127
@@ -22,11 +14,8 @@ joined p q s d n hp hq hs hd hn =
     let l = join 14 _ (d * 2 ^ 7 % 2 ^ 32) _ (d * 2 ^ 7) k (omega arith) (omega arith) (omega arith) in
     join 7 _ n _ n l refl (omega arith) (omega arith)
 
-returns : tie.Need-returns
+pub returns : goal.returns
 returns c =
     let a = c.args in
     rw (flag a.request)
     (joined a.priority _ a.service a.destination a.source c.requires.0 (flag_le a.request) c.requires.1 c.requires.2 c.requires.3)
-
-pub service_bits_spec : {M : Type 1} → statement M
-service_bits_spec = tie.close (tie.spec cast-result returns)

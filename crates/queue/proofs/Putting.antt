@@ -23,7 +23,7 @@ use Rattle.queue.specs.declared.Pushed.{Pushed}
 use Rattle.queue.proofs.Slots.{slot_below, tab_same}
 use Rattle.queue.proofs.Insertion.{inserted_at_tab}
 use Rattle.queue.proofs.Gaps.{there, elsewhere}
-use Rattle.queue.proofs.State.{Sound, sound_of, contents_of, free_of}
+use Rattle.queue.proofs.State.{Sound, sound_of, contents_of, free_of, with_room}
 
 module _ (put : Frame → List Frame → List Frame) (q : ArrayQueue) (places : List (List ℕ)) (filled : List ℕ) (head id : ℕ) (was : ℕ → List ℕ) (moved : List (List ℕ)) (j : ℕ)
     (s : Sound q (length places)) (spare : q.length < q.capacity) (hh : head < q.capacity)
@@ -98,6 +98,10 @@ placed_fits room f e =
 
 pub fits_placed : (room : ℕ) (f : Frame) → Fits room f → placed room f ≡ Placed
 fits_placed room f h = simp (le-leb _ _ h.short, le-leb _ _ h.small, le-leb _ _ h.spare)
+
+-- where a frame is placed the state is sound, and not full
+pub placed_in : (q : ArrayQueue) (places : List (List ℕ)) (f : Frame) → Placed ≡ placed (free q places) f → Sound q (length places) × (q.length < q.capacity)
+placed_in q places f e = with_room q places (placed_fits (free q places) f (sym e)).spare
 
 module _ (put : Frame → List Frame → List Frame) (q : ArrayQueue) (places : List (List ℕ)) (f : Frame) where
   pub refuses : (r : Refusal) → Refused r ≡ placed (free q places) f → Places put q places f (record { queue = q; answer = Refused r }) places

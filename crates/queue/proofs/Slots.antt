@@ -24,6 +24,10 @@ lies head cap k = go (ltb (head + k) cap) refl
 pub slot_below : (head cap k : ℕ) → head < cap → k < cap → slot_of head cap k < cap
 slot_below head cap k h hk = ⊎_elim (λ w. omega arith) (λ w. omega arith) (lies head cap k)
 
+-- and where the k-th place is said to lie
+pub slot_in : (head cap k p : ℕ) → head < cap → k < cap → p ≡ slot_of head cap k → p < cap
+slot_in head cap k p h hk e = rw e (slot_below head cap k h hk)
+
 pub slot_one_below : (head cap : ℕ) → head < cap → slot_of head cap 1 < cap
 slot_one_below head cap h = ⊎_elim (λ w. omega arith) (λ w. omega arith) (lies head cap 1)
 

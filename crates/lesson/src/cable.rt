@@ -5,6 +5,7 @@ use rules::frame::Marks;
 use rules::receive::Received;
 use rx::subscription::Subscription;
 use slots::Slots;
+use std::io;
 
 // The display's store: 32 bytes for each of 128 sources.
 pub(crate) type Store = [u8; 4096];
@@ -33,13 +34,14 @@ fn count(tally: Tally, answer: Received) -> Tally {
 
 // A frame arrives at the display at a time of its own.
 pub(crate) fn arrive(
+    rt: &impl Print,
     tally: Tally,
     display: Subscription,
     slots: &mut Slots,
     store: &mut Store,
     at: u32,
     held: Held,
-) -> Tally {
+) -> io::Result<Tally> {
     let sent = held.marks;
     let data = held.bytes;
     let marks = Marks {
@@ -48,14 +50,14 @@ pub(crate) fn arrive(
         loopback: false,
     };
     let frame = show::leading(&data, held.length);
-    show::frame(marks, frame);
+    show::frame(rt, marks, frame)?;
     let answer = display.accept(slots, store, marks, frame);
-    show::answer(answer, rx::payload(answer, frame, store));
-    count(tally, answer)
+    show::answer(rt, answer, rx::payload(answer, frame, store))?;
+    Ok(count(tally, answer))
 }
 
 // A frame that does not arrive.
-pub(crate) fn lose(at: u32, held: Held) {
+pub(crate) fn lose(rt: &impl Print, at: u32, held: Held) -> io::Result<()> {
     let sent = held.marks;
     let data = held.bytes;
     let marks = Marks {
@@ -63,8 +65,8 @@ pub(crate) fn lose(at: u32, held: Held) {
         id: sent.id,
         loopback: false,
     };
-    show::frame(marks, show::leading(&data, held.length));
-    show::line(b"    lost on the cable");
+    show::frame(rt, marks, show::leading(&data, held.length))?;
+    show::line(rt, "    lost on the cable")
 }
 
 // A frame of which one bit is turned round on the way.

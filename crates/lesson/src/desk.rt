@@ -7,6 +7,7 @@ use rules::subscription::{Port, Settings};
 use rules::types::{CanNodeId, CanTransferId, Priority, SubjectId};
 use rx::subscription::{Subscribed, Subscription};
 use slots::Slots;
+use std::io;
 use tx::CanTransmitter;
 
 // Scans under subject 256, 32 bytes of each kept; an ID that comes again within two seconds is a repeat.
@@ -45,13 +46,14 @@ fn message(priority: u8, subject: u16, node: u8) -> Header {
 
 // The queue with the frames of a message in it.
 fn send(
+    rt: &impl Print,
     queue: ArrayQueue,
     places: &mut [Place],
     mtu: usize,
     header: Header,
     id: u8,
     payload: &[u8],
-) -> ArrayQueue {
+) -> io::Result<ArrayQueue> {
     let transfer = Transfer {
         header,
         transfer_id: CanTransferId(id),
@@ -62,27 +64,33 @@ fn send(
     let answer = sent.answer;
     let after = sent.queue;
     match answer {
-        Sending::Done => after,
+        Sending::Done => Ok(after),
         Sending::Refused(_) => {
-            show::line(b"    the send was refused");
-            after
+            show::line(rt, "    the send was refused")?;
+            Ok(after)
         }
     }
 }
 
 pub(crate) fn send_scan(
+    rt: &impl Print,
     queue: ArrayQueue,
     places: &mut [Place],
     mtu: usize,
     node: u8,
     id: u8,
     payload: &[u8],
-) -> ArrayQueue {
-    send(queue, places, mtu, message(4, 256, node), id, payload)
+) -> io::Result<ArrayQueue> {
+    send(rt, queue, places, mtu, message(4, 256, node), id, payload)
 }
 
-pub(crate) fn send_heartbeat(queue: ArrayQueue, places: &mut [Place]) -> ArrayQueue {
+pub(crate) fn send_heartbeat(
+    rt: &impl Print,
+    queue: ArrayQueue,
+    places: &mut [Place],
+) -> io::Result<ArrayQueue> {
     send(
+        rt,
         queue,
         places,
         8,

@@ -1,21 +1,20 @@
 // What the lesson prints.
-use libc::STDOUT_FILENO;
 use rules::frame::Marks;
 use rules::header::{Header, Source};
 use rules::receive::{Delivery, Received};
 use rules::refusal::Refusal;
+use std::io;
 
-pub(crate) fn text(words: &[u8]) {
-    io::write_all(STDOUT_FILENO, words);
+pub(crate) fn text(rt: &impl Print, words: &str) -> io::Result<()> {
+    print!(rt; "{words}")
 }
 
-pub(crate) fn line(words: &[u8]) {
-    text(words);
-    text(b"\n");
+pub(crate) fn line(rt: &impl Print, words: &str) -> io::Result<()> {
+    println!(rt; "{words}")
 }
 
-pub(crate) fn number(n: u64) {
-    io::print_decimal(STDOUT_FILENO, n);
+pub(crate) fn number(rt: &impl Print, n: u64) -> io::Result<()> {
+    print!(rt; "{n}")
 }
 
 // The leading bytes, all where there are fewer.
@@ -26,142 +25,112 @@ pub(crate) fn leading<'a>(bytes: &'a [u8], n: usize) -> &'a [u8] {
     &bytes[..n]
 }
 
-fn letter(code: u8) {
-    let one = [code];
-    text(&one);
-}
-
-// The low four bits as candump writes them.
-fn digit(value: u8) {
-    let low = value % 16;
-    if low < 10 {
-        letter(48 + low);
-    } else {
-        letter(55 + low);
+// Bytes in hexadecimal, as candump writes them.
+fn bytes(rt: &impl Print, data: &[u8]) -> io::Result<()> {
+    for byte in data {
+        print!(rt; "{byte:02X}")?;
     }
-}
-
-fn byte(value: u8) {
-    digit(value / 16);
-    digit(value);
-}
-
-// Bytes in hexadecimal.
-fn bytes(data: &[u8]) {
-    let mut i = 0;
-    while i < data.len() {
-        byte(data[i]);
-        i += 1;
-    }
+    Ok(())
 }
 
 // A stamp in seconds, of six places.
-fn seconds(stamp: u32) {
+fn seconds(rt: &impl Print, stamp: u32) -> io::Result<()> {
+    let whole = stamp / 1_000_000;
     let micros = stamp % 1_000_000;
-    number((stamp / 1_000_000) as u64);
-    text(b".");
-    number((micros / 100_000) as u64);
-    number((micros / 10_000 % 10) as u64);
-    number((micros / 1_000 % 10) as u64);
-    number((micros / 100 % 10) as u64);
-    number((micros / 10 % 10) as u64);
-    number((micros % 10) as u64);
+    print!(rt; "{whole}.{micros:06}")
 }
 
 // A frame as candump logs it; one of more than 8 bytes is of CAN FD.
-pub(crate) fn frame(marks: Marks, data: &[u8]) {
-    text(b"(");
-    seconds(marks.stamp);
-    text(b") can0 ");
-    byte((marks.id / 16_777_216) as u8);
-    byte((marks.id / 65_536 % 256) as u8);
-    byte((marks.id / 256 % 256) as u8);
-    byte((marks.id % 256) as u8);
+pub(crate) fn frame(rt: &impl Print, marks: Marks, data: &[u8]) -> io::Result<()> {
+    let id = marks.id;
+    text(rt, "(")?;
+    seconds(rt, marks.stamp)?;
+    print!(rt; ") can0 {id:08X}")?;
     if data.len() > 8 {
-        text(b"##1");
+        text(rt, "##1")?;
     } else {
-        text(b"#");
+        text(rt, "#")?;
     }
-    bytes(data);
-    text(b"\n");
+    bytes(rt, data)?;
+    line(rt, "")
 }
 
-fn source(from: Source) {
+fn source(rt: &impl Print, from: Source) -> io::Result<()> {
     match from {
-        Source::Anonymous => text(b"nobody"),
+        Source::Anonymous => text(rt, "nobody"),
         Source::Node(node) => {
-            text(b"node ");
-            number(node.0 as u64);
+            text(rt, "node ")?;
+            number(rt, node.0 as u64)
         }
     }
 }
 
 // Who sent it, and under what.
-fn header(of: Header) {
+fn header(rt: &impl Print, of: Header) -> io::Result<()> {
     match of {
         Header::Message(message) => {
             let from = message.source;
             let subject = message.subject;
-            source(from);
-            text(b", subject ");
-            number(subject.0 as u64);
+            source(rt, from)?;
+            text(rt, ", subject ")?;
+            number(rt, subject.0 as u64)
         }
         Header::Request(request) => {
             let from = request.source;
-            source(from);
-            text(b", a request");
+            source(rt, from)?;
+            text(rt, ", a request")
         }
         Header::Response(response) => {
             let from = response.source;
-            source(from);
-            text(b", a response");
+            source(rt, from)?;
+            text(rt, ", a response")
         }
     }
 }
 
-fn delivery(of: Delivery, payload: &[u8]) {
+fn delivery(rt: &impl Print, of: Delivery, payload: &[u8]) -> io::Result<()> {
     let from = of.header;
     let id = of.transfer_id;
-    text(b"    DELIVERED: ");
-    header(from);
-    text(b", transfer ");
-    number(id.0 as u64);
-    text(b", begun at ");
-    seconds(of.stamp);
-    text(b", ");
-    number(payload.len() as u64);
-    text(b" bytes: ");
-    bytes(payload);
-    text(b"\n");
+    text(rt, "    DELIVERED: ")?;
+    header(rt, from)?;
+    text(rt, ", transfer ")?;
+    number(rt, id.0 as u64)?;
+    text(rt, ", begun at ")?;
+    seconds(rt, of.stamp)?;
+    text(rt, ", ")?;
+    number(rt, payload.len() as u64)?;
+    text(rt, " bytes: ")?;
+    bytes(rt, payload)?;
+    text(rt, "\n")
 }
 
-fn refusal(of: Refusal) {
-    text(b"    refused by ");
-    number(of.number() as u64);
+fn refusal(rt: &impl Print, of: Refusal) -> io::Result<()> {
+    text(rt, "    refused by ")?;
+    number(rt, of.number() as u64)?;
     match of {
-        Refusal::NoSession => line(b", no session and no start bit"),
-        Refusal::Residue => line(b", a residue other than 0"),
-        Refusal::CanId => line(b", a CAN ID that there is not"),
-        Refusal::NoBytes => line(b", no bytes"),
-        Refusal::FrameTooLong => line(b", a frame too long"),
-        Refusal::ReservedBit => line(b", a reserved bit"),
-        Refusal::StoreTooSmall => line(b", a store too small"),
-        Refusal::ExtentTooLarge => line(b", an extent too large"),
-        Refusal::Mtu => line(b", an MTU that there is not"),
-        Refusal::PayloadTooLong => line(b", a payload too long"),
-        Refusal::AnonymousTooLong => line(b", an anonymous payload too long"),
-        Refusal::Field => line(b", a field out of its limits"),
-        Refusal::NoPlace => line(b", no free place"),
-        Refusal::CapacityTooLarge => line(b", a capacity too large"),
+        Refusal::NoSession => line(rt, ", no session and no start bit"),
+        Refusal::Residue => line(rt, ", a residue other than 0"),
+        Refusal::CanId => line(rt, ", a CAN ID that there is not"),
+        Refusal::NoBytes => line(rt, ", no bytes"),
+        Refusal::FrameTooLong => line(rt, ", a frame too long"),
+        Refusal::ReservedBit => line(rt, ", a reserved bit"),
+        Refusal::StoreTooSmall => line(rt, ", a store too small"),
+        Refusal::ExtentTooLarge => line(rt, ", an extent too large"),
+        Refusal::Mtu => line(rt, ", an MTU that there is not"),
+        Refusal::PayloadTooLong => line(rt, ", a payload too long"),
+        Refusal::AnonymousTooLong => line(rt, ", an anonymous payload too long"),
+        Refusal::Field => line(rt, ", a field out of its limits"),
+        Refusal::NoPlace => line(rt, ", no free place"),
+        Refusal::CapacityTooLarge => line(rt, ", a capacity too large"),
     }
 }
 
 // What the display says to a frame, and the bytes that it hands over.
-pub(crate) fn answer(of: Received, payload: &[u8]) {
+pub(crate) fn answer(rt: &impl Print, of: Received, payload: &[u8]) -> io::Result<()> {
     match of {
-        Received::Delivered(handed) => delivery(handed, payload),
-        Received::Nothing => line(b"    nothing"),
-        Received::NotOurs => line(b"    not ours"),
-        Received::Refused(why) => refusal(why),
+        Received::Delivered(handed) => delivery(rt, handed, payload),
+        Received::Nothing => line(rt, "    nothing"),
+        Received::NotOurs => line(rt, "    not ours"),
+        Received::Refused(why) => refusal(rt, why),
     }
 }

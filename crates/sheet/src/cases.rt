@@ -5,6 +5,7 @@ use rules::data::Mtu;
 use rules::header::{Header, MadeCanId, MessageHeader, ServiceHeader, Source};
 use rules::stats::{FrameStats, Planned};
 use rules::types::{CanNodeId, CanTransferId, Priority, ServiceId, SubjectId};
+use std::io;
 
 // The plan; none, no frames at all, for a payload over the limit.
 pub(crate) fn plan(payload_length: usize, mtu: Mtu) -> FrameStats {
@@ -34,79 +35,96 @@ fn last(payload_length: usize, mtu: Mtu, size: u64) -> u64 {
     if size == 0 { 0 } else { all % size }
 }
 
-pub(crate) fn plan_at_64(tally: Tally) -> Tally {
+pub(crate) fn plan_at_64(rt: &impl Print, tally: Tally) -> io::Result<Tally> {
     let fd = Mtu::CanFd64;
     let a = print::row(
+        rt,
         tally,
-        b"case 1, MTU 64, payload 9, padding",
+        "case 1, MTU 64, payload 9, padding",
         0,
         padding(9, fd),
         2,
-    );
+    )?;
     let b = print::row(
+        rt,
         a,
-        b"case 1, MTU 64, payload 62, padding",
+        "case 1, MTU 64, payload 62, padding",
         0,
         padding(62, fd),
         1,
-    );
+    )?;
     let c = print::row(
+        rt,
         b,
-        b"case 1, MTU 64, payload 63, frames",
+        "case 1, MTU 64, payload 63, frames",
         0,
         frames(63, fd),
         1,
-    );
+    )?;
     let d = print::row(
+        rt,
         c,
-        b"case 1, MTU 64, payload 63, padding",
+        "case 1, MTU 64, payload 63, padding",
         0,
         padding(63, fd),
         0,
-    );
+    )?;
     let e = print::row(
+        rt,
         d,
-        b"case 1, MTU 64, payload 64, frames",
+        "case 1, MTU 64, payload 64, frames",
         0,
         frames(64, fd),
         2,
-    );
+    )?;
     print::row(
+        rt,
         e,
-        b"case 1, MTU 64, payload 64, bytes of the last frame",
+        "case 1, MTU 64, payload 64, bytes of the last frame",
         0,
         last(64, fd, 64),
         4,
     )
 }
 
-pub(crate) fn plan_at_8(tally: Tally) -> Tally {
+pub(crate) fn plan_at_8(rt: &impl Print, tally: Tally) -> io::Result<Tally> {
     let can = Mtu::Can8;
     let a = print::row(
+        rt,
         tally,
-        b"case 2, MTU 8, payload 7, frames",
+        "case 2, MTU 8, payload 7, frames",
         0,
         frames(7, can),
         1,
-    );
-    let b = print::row(a, b"case 2, MTU 8, payload 8, frames", 0, frames(8, can), 2);
+    )?;
+    let b = print::row(
+        rt,
+        a,
+        "case 2, MTU 8, payload 8, frames",
+        0,
+        frames(8, can),
+        2,
+    )?;
     let c = print::row(
+        rt,
         b,
-        b"case 2, MTU 8, payload 13, frames",
+        "case 2, MTU 8, payload 13, frames",
         0,
         frames(13, can),
         3,
-    );
+    )?;
     let d = print::row(
+        rt,
         c,
-        b"case 2, MTU 8, payload 13, bytes of the last frame",
+        "case 2, MTU 8, payload 13, bytes of the last frame",
         0,
         last(13, can, 8),
         2,
-    );
+    )?;
     print::row(
+        rt,
         d,
-        b"case 2, MTU 8, payload 1024, frames",
+        "case 2, MTU 8, payload 1024, frames",
         0,
         frames(1024, can),
         147,
@@ -114,7 +132,7 @@ pub(crate) fn plan_at_8(tally: Tally) -> Tally {
 }
 
 // Case 3: the payload, its padding and the tail byte make the frame of the sheet.
-pub(crate) fn one_frame(tally: Tally) -> Tally {
+pub(crate) fn one_frame(rt: &impl Print, tally: Tally) -> io::Result<Tally> {
     let payload = [1u8, 2, 3, 4, 5, 6, 7, 8, 9];
     let wanted = [1u8, 2, 3, 4, 5, 6, 7, 8, 9, 0, 0, 0xE3];
     let mut frame = [0u8; 12];
@@ -123,24 +141,27 @@ pub(crate) fn one_frame(tally: Tally) -> Tally {
     let tail = wire::breakdown::make_tail_byte(true, true, true, CanTransferId(3));
     frame[11] = tail;
     let a = print::row(
+        rt,
         tally,
-        b"case 3, payload 01 to 09 at MTU 64, bytes before the tail",
+        "case 3, payload 01 to 09 at MTU 64, bytes before the tail",
         0,
         padded,
         11,
-    );
+    )?;
     let b = print::row(
+        rt,
         a,
-        b"case 3, tail byte of a single frame with transfer ID 3",
+        "case 3, tail byte of a single frame with transfer ID 3",
         2,
         tail as u64,
         0xE3,
-    );
+    )?;
     print::row(
+        rt,
         b,
-        b"case 3, frame as the sheet has it (1: yes)",
+        "case 3, frame as the sheet has it (1: yes)",
         0,
-        check::same(&frame, &wanted) as u64,
+        (frame == wanted) as u64,
         1,
     )
 }
@@ -170,26 +191,29 @@ pub(crate) fn service(priority: u8, service: u16, destination: u8, source: u8) -
     }
 }
 
-pub(crate) fn can_ids(tally: Tally) -> Tally {
+pub(crate) fn can_ids(rt: &impl Print, tally: Tally) -> io::Result<Tally> {
     let scan = message(4, 256, Source::Node(CanNodeId(42)));
     let info = service(1, 430, 5, 9);
     let a = print::row(
+        rt,
         tally,
-        b"case 4, message, priority 4, subject 256, from 42",
+        "case 4, message, priority 4, subject 256, from 42",
         8,
         id_of(scan, b""),
         0x1061_002A,
-    );
+    )?;
     let b = print::row(
+        rt,
         a,
-        b"case 4, request, priority 1, service 430, to 5, from 9",
+        "case 4, request, priority 1, service 430, to 5, from 9",
         8,
         id_of(Header::Request(info), b""),
         0x076B_8289,
-    );
+    )?;
     print::row(
+        rt,
         b,
-        b"case 4, its response form",
+        "case 4, its response form",
         8,
         id_of(Header::Response(info), b""),
         0x066B_8289,
@@ -200,27 +224,50 @@ fn pseudo(payload: &[u8]) -> u64 {
     wire::tx::make_pseudo_id(payload).0 as u64
 }
 
-pub(crate) fn pseudo_sources(tally: Tally) -> Tally {
+pub(crate) fn pseudo_sources(rt: &impl Print, tally: Tally) -> io::Result<Tally> {
     let a = print::row(
+        rt,
         tally,
-        b"case 5, pseudo source of an empty payload",
+        "case 5, pseudo source of an empty payload",
         0,
         pseudo(b""),
         85,
-    );
-    let b = print::row(a, b"case 5, pseudo source of 2A", 0, pseudo(b"\x2A"), 125);
-    let c = print::row(b, b"case 5, pseudo source of 2B", 0, pseudo(b"\x2B"), 125);
-    print::row(c, b"case 5, pseudo source of AB", 0, pseudo(b"\xAB"), 125)
+    )?;
+    let b = print::row(
+        rt,
+        a,
+        "case 5, pseudo source of 2A",
+        0,
+        pseudo(b"\x2A"),
+        125,
+    )?;
+    let c = print::row(
+        rt,
+        b,
+        "case 5, pseudo source of 2B",
+        0,
+        pseudo(b"\x2B"),
+        125,
+    )?;
+    print::row(
+        rt,
+        c,
+        "case 5, pseudo source of AB",
+        0,
+        pseudo(b"\xAB"),
+        125,
+    )
 }
 
 pub(crate) fn crc_of(bytes: &[u8]) -> u64 {
     crc::digest_bytes(crc::INITIAL, bytes) as u64
 }
 
-pub(crate) fn check_value(tally: Tally) -> Tally {
+pub(crate) fn check_value(rt: &impl Print, tally: Tally) -> io::Result<Tally> {
     print::row(
+        rt,
         tally,
-        b"case 14, CRC of the characters 123456789",
+        "case 14, CRC of the characters 123456789",
         4,
         crc_of(b"123456789"),
         0x29B1,

@@ -4,13 +4,14 @@ use crate::{cases, print};
 use rules::data::Mtu;
 use rules::header::{Header, ParsedCanId, Source};
 use rules::types::{CanNodeId, CanTransferId, TriedCanTransferId};
+use std::io;
 use tracker::CanTransferIdTracker;
 
 // Check values of CRC-16/CCITT-FALSE, also catalogued as CRC-16/IBM-3740.
-pub(crate) fn crc_vectors(tally: Tally) -> Tally {
-    let a = print::row(tally, b"no bytes", 4, cases::crc_of(b""), 0xFFFF);
-    let b = print::row(a, b"123456789", 4, cases::crc_of(b"123456789"), 0x29B1);
-    print::row(b, b"A", 4, cases::crc_of(b"A"), 0xB915)
+pub(crate) fn crc_vectors(rt: &impl Print, tally: Tally) -> io::Result<Tally> {
+    let a = print::row(rt, tally, "no bytes", 4, cases::crc_of(b""), 0xFFFF)?;
+    let b = print::row(rt, a, "123456789", 4, cases::crc_of(b"123456789"), 0x29B1)?;
+    print::row(rt, b, "A", 4, cases::crc_of(b"A"), 0xB915)
 }
 
 fn tail(start: bool, end: bool, toggle: bool, id: CanTransferId) -> u64 {
@@ -18,50 +19,56 @@ fn tail(start: bool, end: bool, toggle: bool, id: CanTransferId) -> u64 {
 }
 
 // Four heartbeats, subject 7509, from node 42, priority 4, transfer IDs 0 to 3: single frames of seven bytes and a tail.
-pub(crate) fn heartbeat(tally: Tally) -> Tally {
+pub(crate) fn heartbeat(rt: &impl Print, tally: Tally) -> io::Result<Tally> {
     let header = cases::message(4, 7509, Source::Node(CanNodeId(42)));
     let first = CanTransferId(0);
     let second = first.increment();
     let third = second.increment();
     let fourth = third.increment();
     let a = print::row(
+        rt,
         tally,
-        b"heartbeat, subject 7509, from 42",
+        "heartbeat, subject 7509, from 42",
         8,
         cases::id_of(header, b""),
         0x107D_552A,
-    );
+    )?;
     let b = print::row(
+        rt,
         a,
-        b"heartbeat, frames of 7 bytes at MTU 8",
+        "heartbeat, frames of 7 bytes at MTU 8",
         0,
         cases::plan(7, Mtu::Can8).frames as u64,
         1,
-    );
+    )?;
     let c = print::row(
+        rt,
         b,
-        b"heartbeat, first tail byte",
+        "heartbeat, first tail byte",
         2,
         tail(true, true, true, first),
         0xE0,
-    );
+    )?;
     let d = print::row(
+        rt,
         c,
-        b"heartbeat, second tail byte",
+        "heartbeat, second tail byte",
         2,
         tail(true, true, true, second),
         0xE1,
-    );
+    )?;
     let e = print::row(
+        rt,
         d,
-        b"heartbeat, third tail byte",
+        "heartbeat, third tail byte",
         2,
         tail(true, true, true, third),
         0xE2,
-    );
+    )?;
     print::row(
+        rt,
         e,
-        b"heartbeat, fourth tail byte",
+        "heartbeat, fourth tail byte",
         2,
         tail(true, true, true, fourth),
         0xE3,
@@ -88,33 +95,37 @@ fn between(id: u32) -> u64 {
 }
 
 // The node information request, service 430, from node 123 to node 42, priority 4, transfer ID 1, and its response's ID.
-pub(crate) fn node_information(tally: Tally) -> Tally {
+pub(crate) fn node_information(rt: &impl Print, tally: Tally) -> io::Result<Tally> {
     let request = Header::Request(cases::service(4, 430, 42, 123));
     let response = Header::Response(cases::service(4, 430, 123, 42));
     let a = print::row(
+        rt,
         tally,
-        b"node information request, from 123 to 42",
+        "node information request, from 123 to 42",
         8,
         cases::id_of(request, b""),
         0x136B_957B,
-    );
+    )?;
     let b = print::row(
+        rt,
         a,
-        b"its tail byte",
+        "its tail byte",
         2,
         tail(true, true, true, CanTransferId(1)),
         0xE1,
-    );
+    )?;
     let c = print::row(
+        rt,
         b,
-        b"its ID read, destination and source",
+        "its ID read, destination and source",
         4,
         between(0x136B_957B),
         0x2A7B,
-    );
+    )?;
     print::row(
+        rt,
         c,
-        b"node information response, from 42 to 123",
+        "node information response, from 42 to 123",
         8,
         cases::id_of(response, b""),
         0x126B_BDAA,
@@ -122,54 +133,61 @@ pub(crate) fn node_information(tally: Tally) -> Tally {
 }
 
 // The response's 69 bytes in eleven frames of MTU 8, the CRC split between the last two.
-pub(crate) fn response_frames(tally: Tally) -> Tally {
+pub(crate) fn response_frames(rt: &impl Print, tally: Tally) -> io::Result<Tally> {
     let payload = cases::node_information();
     let id = CanTransferId(1);
     let a = print::row(
+        rt,
         tally,
-        b"response, bytes of payload",
+        "response, bytes of payload",
         0,
         payload.len() as u64,
         69,
-    );
+    )?;
     let b = print::row(
+        rt,
         a,
-        b"response, frames at MTU 8",
+        "response, frames at MTU 8",
         0,
         cases::plan(payload.len(), Mtu::Can8).frames as u64,
         11,
-    );
+    )?;
     let c = print::row(
+        rt,
         b,
-        b"response, transfer CRC",
+        "response, transfer CRC",
         4,
         cases::crc_of(&payload),
         0x9AE7,
-    );
+    )?;
     let d = print::row(
+        rt,
         c,
-        b"response, tail byte of its first frame",
+        "response, tail byte of its first frame",
         2,
         tail(true, false, true, id),
         0xA1,
-    );
+    )?;
     let e = print::row(
+        rt,
         d,
-        b"response, tail byte of its second frame",
+        "response, tail byte of its second frame",
         2,
         tail(false, false, false, id),
         0x01,
-    );
+    )?;
     let f = print::row(
+        rt,
         e,
-        b"response, tail byte of its third frame",
+        "response, tail byte of its third frame",
         2,
         tail(false, false, true, id),
         0x21,
-    );
+    )?;
     print::row(
+        rt,
         f,
-        b"response, tail byte of its last frame",
+        "response, tail byte of its last frame",
         2,
         tail(false, true, true, id),
         0x61,
@@ -185,7 +203,7 @@ fn given(answer: TriedCanTransferId) -> u64 {
 }
 
 // Destination 6 owns bits 30 to 34 of the row, which straddle two words. A row of ones has 31 for every destination.
-pub(crate) fn transfer_ids(tally: Tally) -> Tally {
+pub(crate) fn transfer_ids(rt: &impl Print, tally: Tally) -> io::Result<Tally> {
     let fresh = CanTransferIdTracker::new().next_transfer_id(CanNodeId(6));
     let first = fresh.answer;
     let again = fresh.tracker.next_transfer_id(CanNodeId(6));
@@ -201,26 +219,29 @@ pub(crate) fn transfer_ids(tally: Tally) -> Tally {
     let other = beside.answer;
     let beyond = beside.tracker.next_transfer_id(CanNodeId(128));
     let refused = beyond.answer;
-    let a = print::row(tally, b"destination 6, asked first", 0, given(first), 0);
-    let b = print::row(a, b"destination 6, asked again", 0, given(second), 1);
-    let c = print::row(b, b"destination 6 of a row of ones", 0, given(last), 31);
+    let a = print::row(rt, tally, "destination 6, asked first", 0, given(first), 0)?;
+    let b = print::row(rt, a, "destination 6, asked again", 0, given(second), 1)?;
+    let c = print::row(rt, b, "destination 6 of a row of ones", 0, given(last), 31)?;
     let d = print::row(
+        rt,
         c,
-        b"destination 6 of that row, asked again",
+        "destination 6 of that row, asked again",
         0,
         given(next),
         0,
-    );
+    )?;
     let e = print::row(
+        rt,
         d,
-        b"destination 7 of that row, left alone",
+        "destination 7 of that row, left alone",
         0,
         given(other),
         31,
-    );
+    )?;
     print::row(
+        rt,
         e,
-        b"destination 128, refusal (100 + its number)",
+        "destination 128, refusal (100 + its number)",
         0,
         given(refused),
         112,

@@ -9,56 +9,62 @@ mod receiver;
 mod sender;
 
 use print::Tally;
+use std::io;
 
-fn main() {
+fn main(rt: HostRuntime) -> io::Result<()> {
     let mut tally = Tally { right: 0, wrong: 0 };
-    print::line(b"The bench sheet, on the real code");
-    tally = cases::plan_at_64(tally);
-    tally = cases::plan_at_8(tally);
-    tally = cases::one_frame(tally);
-    tally = cases::can_ids(tally);
-    tally = cases::pseudo_sources(tally);
-    tally = cases::check_value(tally);
-    print::line(b"Published vectors of CRC-16/CCITT-FALSE");
-    tally = examples::crc_vectors(tally);
-    print::line(b"Worked examples of the Cyphal Specification");
-    tally = examples::heartbeat(tally);
-    tally = examples::node_information(tally);
-    tally = examples::response_frames(tally);
-    print::line(b"The real sender over the real queue (1: as it should be)");
-    tally = sender::lengths(tally);
-    tally = sender::split_crc(tally);
-    tally = sender::single_frames(tally);
-    tally = sender::node_information(tally);
-    tally = sender::returned_first(tally);
-    tally = sender::refusals(tally);
-    tally = received(tally);
-    print::line(b"The tracker");
-    tally = examples::transfer_ids(tally);
-    print::total(tally);
+    print::line(&rt, "The bench sheet, on the real code")?;
+    tally = cases::plan_at_64(&rt, tally)?;
+    tally = cases::plan_at_8(&rt, tally)?;
+    tally = cases::one_frame(&rt, tally)?;
+    tally = cases::can_ids(&rt, tally)?;
+    tally = cases::pseudo_sources(&rt, tally)?;
+    tally = cases::check_value(&rt, tally)?;
+    print::line(&rt, "Published vectors of CRC-16/CCITT-FALSE")?;
+    tally = examples::crc_vectors(&rt, tally)?;
+    print::line(&rt, "Worked examples of the Cyphal Specification")?;
+    tally = examples::heartbeat(&rt, tally)?;
+    tally = examples::node_information(&rt, tally)?;
+    tally = examples::response_frames(&rt, tally)?;
+    print::line(
+        &rt,
+        "The real sender over the real queue (1: as it should be)",
+    )?;
+    tally = sender::lengths(&rt, tally)?;
+    tally = sender::split_crc(&rt, tally)?;
+    tally = sender::single_frames(&rt, tally)?;
+    tally = sender::node_information(&rt, tally)?;
+    tally = sender::returned_first(&rt, tally)?;
+    tally = sender::refusals(&rt, tally)?;
+    tally = received(&rt, tally)?;
+    print::line(&rt, "The tracker")?;
+    tally = examples::transfer_ids(&rt, tally)?;
+    print::total(&rt, tally)
 }
 
 // The sheet's cases, the refusals and the specification's frames at the real receiver.
-fn received(before: Tally) -> Tally {
+fn received(rt: &impl Print, before: Tally) -> io::Result<Tally> {
     let mut tally = before;
     print::line(
-        b"The real receiver (0: nothing, 100: delivered, 200: not ours, others: the refusal)",
-    );
-    tally = receiver::empty_payload(tally);
-    tally = receiver::one_byte(tally);
-    tally = receiver::strange_id(tally);
-    tally = receiver::repeat(tally);
-    tally = receiver::never_seen(tally);
-    tally = receiver::second_time(tally);
-    tally = receiver::first_stamp(tally);
-    tally = receiver::refusals(tally);
-    tally = receiver::makings(tally);
-    tally = receiver::anonymous(tally);
+        rt,
+        "The real receiver (0: nothing, 100: delivered, 200: not ours, others: the refusal)",
+    )?;
+    tally = receiver::empty_payload(rt, tally)?;
+    tally = receiver::one_byte(rt, tally)?;
+    tally = receiver::strange_id(rt, tally)?;
+    tally = receiver::repeat(rt, tally)?;
+    tally = receiver::never_seen(rt, tally)?;
+    tally = receiver::second_time(rt, tally)?;
+    tally = receiver::first_stamp(rt, tally)?;
+    tally = receiver::refusals(rt, tally)?;
+    tally = receiver::makings(rt, tally)?;
+    tally = receiver::anonymous(rt, tally)?;
     print::line(
-        b"Worked examples of the Cyphal Specification at the real receiver (1: as it should be)",
-    );
-    tally = receiver::heartbeats(tally);
-    tally = receiver::request(tally);
-    tally = receiver::response(tally);
-    tally
+        rt,
+        "Worked examples of the Cyphal Specification at the real receiver (1: as it should be)",
+    )?;
+    tally = receiver::heartbeats(rt, tally)?;
+    tally = receiver::request(rt, tally)?;
+    tally = receiver::response(rt, tally)?;
+    Ok(tally)
 }

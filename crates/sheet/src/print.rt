@@ -1,5 +1,5 @@
 // What is printed, and how many rows were right.
-use libc::STDOUT_FILENO;
+use std::io;
 
 #[derive(Clone, Copy)]
 pub(crate) struct Tally {
@@ -7,44 +7,47 @@ pub(crate) struct Tally {
     pub wrong: u64,
 }
 
-pub(crate) fn line(text: &[u8]) {
-    io::write_all(STDOUT_FILENO, text);
-    io::write_all(STDOUT_FILENO, b"\n");
+pub(crate) fn line(rt: &impl Print, text: &str) -> io::Result<()> {
+    println!(rt; "{text}")
 }
 
 // A row: what was asked, what the code gives, and whether that is what was wanted. As many hexadecimal digits as told; none means decimal.
-pub(crate) fn row(tally: Tally, asked: &[u8], digits: usize, got: u64, wanted: u64) -> Tally {
-    io::write_all(STDOUT_FILENO, b"  ");
-    io::write_all(STDOUT_FILENO, asked);
-    io::write_all(STDOUT_FILENO, b": ");
-    number(digits, got);
+pub(crate) fn row(
+    rt: &impl Print,
+    tally: Tally,
+    asked: &str,
+    digits: usize,
+    got: u64,
+    wanted: u64,
+) -> io::Result<Tally> {
+    print!(rt; "  {asked}: ")?;
+    number(rt, digits, got)?;
     if got == wanted {
-        line(b"");
-        return Tally {
-            right: std::num::wrapping_add_u64(tally.right, 1),
+        line(rt, "")?;
+        return Ok(Tally {
+            right: tally.right.wrapping_add(1),
             wrong: tally.wrong,
-        };
+        });
     }
-    io::write_all(STDOUT_FILENO, b"  WRONG, it should be ");
-    number(digits, wanted);
-    line(b"");
-    Tally {
+    print!(rt; "  WRONG, it should be ")?;
+    number(rt, digits, wanted)?;
+    line(rt, "")?;
+    Ok(Tally {
         right: tally.right,
-        wrong: std::num::wrapping_add_u64(tally.wrong, 1),
-    }
+        wrong: tally.wrong.wrapping_add(1),
+    })
 }
 
-fn number(digits: usize, n: u64) {
+fn number(rt: &impl Print, digits: usize, n: u64) -> io::Result<()> {
     if digits == 0 {
-        io::print_decimal(STDOUT_FILENO, n);
+        print!(rt; "{n}")
     } else {
-        io::print_hex(STDOUT_FILENO, n, digits);
+        print!(rt; "{n:0digits$x}")
     }
 }
 
-pub(crate) fn total(tally: Tally) {
-    io::print_decimal(STDOUT_FILENO, tally.right);
-    io::write_all(STDOUT_FILENO, b" rows right, ");
-    io::print_decimal(STDOUT_FILENO, tally.wrong);
-    line(b" wrong");
+pub(crate) fn total(rt: &impl Print, tally: Tally) -> io::Result<()> {
+    let right = tally.right;
+    let wrong = tally.wrong;
+    println!(rt; "{right} rows right, {wrong} wrong")
 }

@@ -7,6 +7,7 @@ use rules::subscription::{Port, ServicePort, Settings};
 use rules::types::{CanNodeId, ServiceId, SubjectId};
 use rx::subscription::{Subscribed, Subscription};
 use slots::Slots;
+use std::io;
 
 // The answers that are no refusal, by numbers that no refusal has.
 const NOTHING: u64 = 0;
@@ -26,8 +27,14 @@ fn number(answer: Received) -> u64 {
 }
 
 // Shows the answer to a frame.
-fn row(tally: Tally, asked: &[u8], answer: Received, wanted: u64) -> Tally {
-    print::row(tally, asked, 0, number(answer), wanted)
+fn row(
+    rt: &impl Print,
+    tally: Tally,
+    asked: &str,
+    answer: Received,
+    wanted: u64,
+) -> io::Result<Tally> {
+    print::row(rt, tally, asked, 0, number(answer), wanted)
 }
 
 // The stamp of a delivery, or more than any for another answer.
@@ -73,38 +80,39 @@ fn scan(stamp: u32) -> Marks {
 }
 
 // Case 6: the two bytes are the CRC of an empty payload.
-pub(crate) fn empty_payload(tally: Tally) -> Tally {
+pub(crate) fn empty_payload(rt: &impl Print, tally: Tally) -> io::Result<Tally> {
     let mut slots = [[0u32; 4]; 128];
     let mut store = [0u8; 256];
     let scans = scans(32, &mut slots);
     let first = scans.accept(&mut slots, &mut store, scan(0), b"\xFF\xA0");
     let last = scans.accept(&mut slots, &mut store, scan(1), b"\xFF\x40");
     let shown = rx::payload(last, b"\xFF\x40", &store).len() as u64;
-    let a = row(tally, b"case 6, fresh slot, FF A0", first, NOTHING);
-    let b = row(a, b"case 6, then FF 40", last, DELIVERED);
-    print::row(b, b"case 6, bytes delivered", 0, shown, 0)
+    let a = row(rt, tally, "case 6, fresh slot, FF A0", first, NOTHING)?;
+    let b = row(rt, a, "case 6, then FF 40", last, DELIVERED)?;
+    print::row(rt, b, "case 6, bytes delivered", 0, shown, 0)
 }
 
 // Case 7: one byte in all is too short for a CRC.
-pub(crate) fn one_byte(tally: Tally) -> Tally {
+pub(crate) fn one_byte(rt: &impl Print, tally: Tally) -> io::Result<Tally> {
     let mut slots = [[0u32; 4]; 128];
     let mut store = [0u8; 256];
     let scans = scans(32, &mut slots);
     let first = scans.accept(&mut slots, &mut store, scan(0), b"\xA0");
     let last = scans.accept(&mut slots, &mut store, scan(1), b"\x07\x40");
-    let a = row(tally, b"case 7, fresh slot, A0", first, NOTHING);
-    row(a, b"case 7, then 07 40", last, 6)
+    let a = row(rt, tally, "case 7, fresh slot, A0", first, NOTHING)?;
+    row(rt, a, "case 7, then 07 40", last, 6)
 }
 
 // Case 8: a fresh slot expects ID 0, and takes any other.
-pub(crate) fn strange_id(tally: Tally) -> Tally {
+pub(crate) fn strange_id(rt: &impl Print, tally: Tally) -> io::Result<Tally> {
     let mut slots = [[0u32; 4]; 128];
     let mut store = [0u8; 256];
     let scans = scans(32, &mut slots);
     let only = scans.accept(&mut slots, &mut store, scan(0), b"\x07\xFF");
     row(
+        rt,
         tally,
-        b"case 8, fresh slot, a single frame with ID 31",
+        "case 8, fresh slot, a single frame with ID 31",
         only,
         DELIVERED,
     )
@@ -119,16 +127,18 @@ fn again(timeout: u32) -> Received {
     scans.accept(&mut slots, &mut store, scan(0x10), b"\x07\xE0")
 }
 
-pub(crate) fn repeat(tally: Tally) -> Tally {
+pub(crate) fn repeat(rt: &impl Print, tally: Tally) -> io::Result<Tally> {
     let a = row(
+        rt,
         tally,
-        b"case 9, the same ID at age 32, timeout 32",
+        "case 9, the same ID at age 32, timeout 32",
         again(32),
         NOTHING,
-    );
+    )?;
     row(
+        rt,
         a,
-        b"case 9, the same ID at age 32, timeout 31",
+        "case 9, the same ID at age 32, timeout 31",
         again(31),
         DELIVERED,
     )
@@ -157,40 +167,43 @@ fn fed(then: &[u8]) -> Answers {
 }
 
 // Case 10: that ID 8 is taken for a repeat shows that ID 9 is expected.
-pub(crate) fn never_seen(tally: Tally) -> Tally {
+pub(crate) fn never_seen(rt: &impl Print, tally: Tally) -> io::Result<Tally> {
     let said = fed(b"\x07\xE8");
     let single = said.single;
     let middle = said.middle;
     let then = said.then;
     let a = row(
+        rt,
         tally,
-        b"case 10, a single frame with ID 3",
+        "case 10, a single frame with ID 3",
         single,
         DELIVERED,
-    );
-    let b = row(a, b"case 10, then a middle frame with ID 9", middle, 5);
+    )?;
+    let b = row(rt, a, "case 10, then a middle frame with ID 9", middle, 5)?;
     row(
+        rt,
         b,
-        b"case 10, then a single frame with ID 8 in time",
+        "case 10, then a single frame with ID 8 in time",
         then,
         NOTHING,
     )
 }
 
 // Case 11: a strange ID makes the slot forget ID 3, as in the Rust.
-pub(crate) fn second_time(tally: Tally) -> Tally {
+pub(crate) fn second_time(rt: &impl Print, tally: Tally) -> io::Result<Tally> {
     let said = fed(b"\x07\xE3");
     let then = said.then;
     row(
+        rt,
         tally,
-        b"case 11, as 10, but then the single frame with ID 3 again",
+        "case 11, as 10, but then the single frame with ID 3 again",
         then,
         DELIVERED,
     )
 }
 
 // Case 12: the first frame opens the session, though its toggle is not awaited and its byte does not join.
-pub(crate) fn first_stamp(tally: Tally) -> Tally {
+pub(crate) fn first_stamp(rt: &impl Print, tally: Tally) -> io::Result<Tally> {
     let mut slots = [[0u32; 4]; 128];
     let mut store = [0u8; 256];
     let scans = scans(32, &mut slots);
@@ -198,14 +211,28 @@ pub(crate) fn first_stamp(tally: Tally) -> Tally {
     let proper = scans.accept(&mut slots, &mut store, scan(1001), b"\xFF\xA0");
     let last = scans.accept(&mut slots, &mut store, scan(1002), b"\xFF\x40");
     let a = row(
+        rt,
         tally,
-        b"case 12, stamp 1000, a start frame with toggle 0",
+        "case 12, stamp 1000, a start frame with toggle 0",
         early,
         NOTHING,
-    );
-    let b = row(a, b"case 12, stamp 1001, a proper start", proper, NOTHING);
-    let c = row(b, b"case 12, stamp 1002, the end", last, DELIVERED);
-    print::row(c, b"case 12, stamp of the delivery", 0, stamp(last), 1000)
+    )?;
+    let b = row(
+        rt,
+        a,
+        "case 12, stamp 1001, a proper start",
+        proper,
+        NOTHING,
+    )?;
+    let c = row(rt, b, "case 12, stamp 1002, the end", last, DELIVERED)?;
+    print::row(
+        rt,
+        c,
+        "case 12, stamp of the delivery",
+        0,
+        stamp(last),
+        1000,
+    )
 }
 
 // Whether a frame is answered by a delivery of these bytes.
@@ -221,7 +248,7 @@ fn delivers(
     if number(answer) != DELIVERED {
         return 0;
     }
-    check::same(rx::payload(answer, frame, store), payload) as u64
+    (rx::payload(answer, frame, store) == payload) as u64
 }
 
 // Whether the specification's heartbeat n is delivered; n is its uptime in seconds, which the payload begins with, and its transfer ID.
@@ -231,7 +258,7 @@ fn beat(beats: Subscription, slots: &mut Slots, store: &mut [u8], n: u8) -> u64 
     delivers(beats, slots, store, 0x107D_552A, &frame, &payload)
 }
 
-pub(crate) fn heartbeats(tally: Tally) -> Tally {
+pub(crate) fn heartbeats(rt: &impl Print, tally: Tally) -> io::Result<Tally> {
     let mut slots = [[0u32; 4]; 128];
     let mut store = [0u8; 896];
     let beats = subscribe(Port::Message(SubjectId(7509)), 32, 7, &mut slots);
@@ -239,10 +266,10 @@ pub(crate) fn heartbeats(tally: Tally) -> Tally {
     let second = beat(beats, &mut slots, &mut store, 1);
     let third = beat(beats, &mut slots, &mut store, 2);
     let fourth = beat(beats, &mut slots, &mut store, 3);
-    let a = print::row(tally, b"heartbeat, first payload delivered", 0, first, 1);
-    let b = print::row(a, b"heartbeat, second payload delivered", 0, second, 1);
-    let c = print::row(b, b"heartbeat, third payload delivered", 0, third, 1);
-    print::row(c, b"heartbeat, fourth payload delivered", 0, fourth, 1)
+    let a = print::row(rt, tally, "heartbeat, first payload delivered", 0, first, 1)?;
+    let b = print::row(rt, a, "heartbeat, second payload delivered", 0, second, 1)?;
+    let c = print::row(rt, b, "heartbeat, third payload delivered", 0, third, 1)?;
+    print::row(rt, c, "heartbeat, fourth payload delivered", 0, fourth, 1)
 }
 
 // Service 430 at a node.
@@ -254,12 +281,12 @@ fn information(node: u8) -> ServicePort {
 }
 
 // The specification's node information request, at node 42.
-pub(crate) fn request(tally: Tally) -> Tally {
+pub(crate) fn request(rt: &impl Print, tally: Tally) -> io::Result<Tally> {
     let mut slots = [[0u32; 4]; 128];
     let mut store = [0u8; 256];
     let requests = subscribe(Port::Request(information(42)), 32, 2, &mut slots);
     let right = delivers(requests, &mut slots, &mut store, 0x136B_957B, b"\xE1", b"");
-    print::row(tally, b"request, empty payload delivered", 0, right, 1)
+    print::row(rt, tally, "request, empty payload delivered", 0, right, 1)
 }
 
 // The frames of the specification's node information response but for the last, in two fives.
@@ -314,7 +341,7 @@ fn five_silent(
 }
 
 // The response at node 123. Its CRC has room in the store behind its payload, and is not shown.
-pub(crate) fn response(tally: Tally) -> Tally {
+pub(crate) fn response(rt: &impl Print, tally: Tally) -> io::Result<Tally> {
     let mut slots = [[0u32; 4]; 128];
     let mut store = [0u8; 9216];
     let payload = cases::node_information();
@@ -330,15 +357,17 @@ pub(crate) fn response(tally: Tally) -> Tally {
         &payload,
     );
     let a = print::row(
+        rt,
         tally,
-        b"response, frames before the last answered by nothing",
+        "response, frames before the last answered by nothing",
         0,
         ten,
         10,
-    );
+    )?;
     print::row(
+        rt,
         a,
-        b"response, payload delivered at the last frame",
+        "response, payload delivered at the last frame",
         0,
         right,
         1,
@@ -346,7 +375,7 @@ pub(crate) fn response(tally: Tally) -> Tally {
 }
 
 // An anonymous frame, whatever its tail, is delivered uncut, where node 42 has its bytes cut to the extent.
-pub(crate) fn anonymous(tally: Tally) -> Tally {
+pub(crate) fn anonymous(rt: &impl Print, tally: Tally) -> io::Result<Tally> {
     let mut slots = [[0u32; 4]; 128];
     let mut store = [0u8; 256];
     let scans = scans(32, &mut slots);
@@ -367,15 +396,17 @@ pub(crate) fn anonymous(tally: Tally) -> Tally {
         b"12",
     );
     let a = print::row(
+        rt,
         tally,
-        b"anonymous, 4 bytes at extent 2, delivered uncut (1: yes)",
+        "anonymous, 4 bytes at extent 2, delivered uncut (1: yes)",
         0,
         uncut,
         1,
-    );
+    )?;
     print::row(
+        rt,
         a,
-        b"from node 42, 4 bytes at extent 2, delivered cut (1: yes)",
+        "from node 42, 4 bytes at extent 2, delivered cut (1: yes)",
         0,
         cut,
         1,
@@ -391,7 +422,7 @@ fn answer(store: &mut [u8], id: u32, bytes: &[u8]) -> u64 {
 }
 
 // Refusals in their order: each frame has the faults of the rows below it, too, as far as they go together.
-pub(crate) fn refusals(tally: Tally) -> Tally {
+pub(crate) fn refusals(rt: &impl Print, tally: Tally) -> io::Result<Tally> {
     let mut short = [0u8; 255];
     let mut store = [0u8; 256];
     let small = answer(&mut short, 0x30E1_012A, b"");
@@ -401,13 +432,13 @@ pub(crate) fn refusals(tally: Tally) -> Tally {
     let reserved = answer(&mut store, 0x10E1_012A, b"\x07\x00");
     let other = answer(&mut store, 0x1061_012A, b"\x07\x00");
     let middle = answer(&mut store, 0x1061_002A, b"\x07\x00");
-    let a = print::row(tally, b"a store of 255 bytes at extent 2", 0, small, 7);
-    let b = print::row(a, b"a frame of no bytes", 0, bare, 2);
-    let c = print::row(b, b"a frame of 65 bytes", 0, long, 3);
-    let d = print::row(c, b"a CAN ID over 2^29", 0, beyond, 1);
-    let e = print::row(d, b"a CAN ID with bit 23", 0, reserved, 4);
-    let f = print::row(e, b"a frame of subject 257", 0, other, NOT_OURS);
-    print::row(f, b"a middle frame with no session", 0, middle, 5)
+    let a = print::row(rt, tally, "a store of 255 bytes at extent 2", 0, small, 7)?;
+    let b = print::row(rt, a, "a frame of no bytes", 0, bare, 2)?;
+    let c = print::row(rt, b, "a frame of 65 bytes", 0, long, 3)?;
+    let d = print::row(rt, c, "a CAN ID over 2^29", 0, beyond, 1)?;
+    let e = print::row(rt, d, "a CAN ID with bit 23", 0, reserved, 4)?;
+    let f = print::row(rt, e, "a frame of subject 257", 0, other, NOT_OURS)?;
+    print::row(rt, f, "a middle frame with no session", 0, middle, 5)
 }
 
 // The number of the answer to making: 0 for made, a refusal's otherwise.
@@ -419,17 +450,19 @@ fn making(subject: u16, extent: usize) -> u64 {
     }
 }
 
-pub(crate) fn makings(tally: Tally) -> Tally {
+pub(crate) fn makings(rt: &impl Print, tally: Tally) -> io::Result<Tally> {
     let a = print::row(
+        rt,
         tally,
-        b"making, subject 8192, extent 1025",
+        "making, subject 8192, extent 1025",
         0,
         making(8192, 1025),
         12,
-    );
+    )?;
     print::row(
+        rt,
         a,
-        b"making, subject 8191, extent 1025",
+        "making, subject 8191, extent 1025",
         0,
         making(8191, 1025),
         8,

@@ -6,6 +6,7 @@ use rules::frame::Marks;
 use rules::header::{Header, Source};
 use rules::send::{Sending, Transfer};
 use rules::types::{CanNodeId, CanTransferId};
+use std::io;
 use tx::CanTransmitter;
 
 // The tally and the queue after a row.
@@ -74,24 +75,31 @@ fn is_frame(held: Held, id: u32, bytes: &[u8]) -> bool {
     if held.length != n {
         return false;
     }
-    check::same(&data, &wanted)
+    data == wanted
 }
 
 // Pops a frame, and shows whether it is the one.
-fn next(shown: Shown, asked: &[u8], places: &[Place], id: u32, bytes: &[u8]) -> Shown {
+fn next(
+    rt: &impl Print,
+    shown: Shown,
+    asked: &str,
+    places: &[Place],
+    id: u32,
+    bytes: &[u8],
+) -> io::Result<Shown> {
     let popped = shown.queue.pop_frame(places);
     let held = popped.held;
     let queue = popped.queue;
     let right = is_frame(held, id, bytes) as u64;
-    let tally = print::row(shown.tally, asked, 0, right, 1);
-    Shown { tally, queue }
+    let tally = print::row(rt, shown.tally, asked, 0, right, 1)?;
+    Ok(Shown { tally, queue })
 }
 
 // Case 3 and heartbeats of the specification, as frames (1: as it should be).
-pub(crate) fn single_frames(tally: Tally) -> Tally {
+pub(crate) fn single_frames(rt: &impl Print, tally: Tally) -> io::Result<Tally> {
     let mut places = [[0u8; 76]; 16];
     let queue = send_singles(&mut places);
-    show_singles(Shown { tally, queue }, &places)
+    show_singles(rt, Shown { tally, queue }, &places)
 }
 
 fn send_singles(places: &mut [Place]) -> ArrayQueue {
@@ -109,36 +117,39 @@ fn send_singles(places: &mut [Place]) -> ArrayQueue {
     send(b, places, 8, beat, 1, b"\x01\x00\x00\x00\x00\x01\xA1")
 }
 
-fn show_singles(shown: Shown, places: &[Place]) -> Tally {
+fn show_singles(rt: &impl Print, shown: Shown, places: &[Place]) -> io::Result<Tally> {
     let a = next(
+        rt,
         shown,
-        b"case 3, the frame that was sent",
+        "case 3, the frame that was sent",
         places,
         0x1061_002A,
         b"\x01\x02\x03\x04\x05\x06\x07\x08\x09\x00\x00\xE3",
-    );
+    )?;
     let b = next(
+        rt,
         a,
-        b"heartbeat, first frame",
+        "heartbeat, first frame",
         places,
         0x107D_552A,
         b"\x00\x00\x00\x00\x00\x01\xA1\xE0",
-    );
+    )?;
     let c = next(
+        rt,
         b,
-        b"heartbeat, second frame",
+        "heartbeat, second frame",
         places,
         0x107D_552A,
         b"\x01\x00\x00\x00\x00\x01\xA1\xE1",
-    );
-    print::row(c.tally, b"frames left", 0, c.queue.len(places) as u64, 0)
+    )?;
+    print::row(rt, c.tally, "frames left", 0, c.queue.len(places) as u64, 0)
 }
 
 // The specification's node information response, eleven frames, the CRC split between the last two, and its request.
-pub(crate) fn node_information(tally: Tally) -> Tally {
+pub(crate) fn node_information(rt: &impl Print, tally: Tally) -> io::Result<Tally> {
     let mut places = [[0u8; 76]; 16];
     let queue = send_information(&mut places);
-    first_frames(Shown { tally, queue }, &places)
+    first_frames(rt, Shown { tally, queue }, &places)
 }
 
 fn send_information(places: &mut [Place]) -> ArrayQueue {
@@ -148,90 +159,108 @@ fn send_information(places: &mut [Place]) -> ArrayQueue {
     send(a, places, 8, response, 1, &cases::node_information())
 }
 
-fn first_frames(shown: Shown, places: &[Place]) -> Tally {
+fn first_frames(rt: &impl Print, shown: Shown, places: &[Place]) -> io::Result<Tally> {
     let a = next(
+        rt,
         shown,
-        b"response, frame 1",
+        "response, frame 1",
         places,
         0x126B_BDAA,
         b"\x01\x00\x00\x00\x01\x00\x00\xA1",
-    );
+    )?;
     let b = next(
+        rt,
         a,
-        b"response, frame 2",
+        "response, frame 2",
         places,
         0x126B_BDAA,
         b"\x00\x00\x00\x00\x00\x00\x00\x01",
-    );
+    )?;
     let c = next(
+        rt,
         b,
-        b"response, frame 3",
+        "response, frame 3",
         places,
         0x126B_BDAA,
         b"\x00\x00\x00\x00\x00\x00\x00\x21",
-    );
+    )?;
     let d = next(
+        rt,
         c,
-        b"response, frame 4",
+        "response, frame 4",
         places,
         0x126B_BDAA,
         b"\x00\x00\x00\x00\x00\x00\x00\x01",
-    );
+    )?;
     let e = next(
+        rt,
         d,
-        b"response, frame 5",
+        "response, frame 5",
         places,
         0x126B_BDAA,
         b"\x00\x00\x24\x6F\x72\x67\x2E\x21",
-    );
-    last_frames(e, places)
+    )?;
+    last_frames(rt, e, places)
 }
 
-fn last_frames(shown: Shown, places: &[Place]) -> Tally {
+fn last_frames(rt: &impl Print, shown: Shown, places: &[Place]) -> io::Result<Tally> {
     let a = next(
+        rt,
         shown,
-        b"response, frame 6",
+        "response, frame 6",
         places,
         0x126B_BDAA,
         b"\x75\x61\x76\x63\x61\x6E\x2E\x01",
-    );
+    )?;
     let b = next(
+        rt,
         a,
-        b"response, frame 7",
+        "response, frame 7",
         places,
         0x126B_BDAA,
         b"\x70\x79\x75\x61\x76\x63\x61\x21",
-    );
+    )?;
     let c = next(
+        rt,
         b,
-        b"response, frame 8",
+        "response, frame 8",
         places,
         0x126B_BDAA,
         b"\x6E\x2E\x64\x65\x6D\x6F\x2E\x01",
-    );
+    )?;
     let d = next(
+        rt,
         c,
-        b"response, frame 9",
+        "response, frame 9",
         places,
         0x126B_BDAA,
         b"\x62\x61\x73\x69\x63\x5F\x75\x21",
-    );
+    )?;
     let e = next(
+        rt,
         d,
-        b"response, frame 10",
+        "response, frame 10",
         places,
         0x126B_BDAA,
         b"\x73\x61\x67\x65\x00\x00\x9A\x01",
-    );
-    let f = next(e, b"response, frame 11", places, 0x126B_BDAA, b"\xE7\x61");
+    )?;
+    let f = next(
+        rt,
+        e,
+        "response, frame 11",
+        places,
+        0x126B_BDAA,
+        b"\xE7\x61",
+    )?;
     let g = next(
+        rt,
         f,
-        b"request, which has the higher ID",
+        "request, which has the higher ID",
         places,
         0x136B_957B,
         b"\xE1",
-    );
-    print::row(g.tally, b"frames left", 0, g.queue.len(places) as u64, 0)
+    )?;
+    print::row(rt, g.tally, "frames left", 0, g.queue.len(places) as u64, 0)
 }
 
 // The frames that a payload of zeros is sent in.
@@ -247,32 +276,36 @@ fn frames_of(places: &mut [Place], capacity: usize, mtu: usize, payload: &[u8]) 
 }
 
 // Cases 1 and 2: how many frames the sender queues.
-pub(crate) fn lengths(tally: Tally) -> Tally {
+pub(crate) fn lengths(rt: &impl Print, tally: Tally) -> io::Result<Tally> {
     let mut places = [[0u8; 76]; 256];
     let a = print::row(
+        rt,
         tally,
-        b"case 1, payload 63 at MTU 64, frames queued",
+        "case 1, payload 63 at MTU 64, frames queued",
         0,
         frames_of(&mut places, 16, 64, &[0u8; 63]),
         1,
-    );
+    )?;
     let b = print::row(
+        rt,
         a,
-        b"case 1, payload 64 at MTU 64, frames queued",
+        "case 1, payload 64 at MTU 64, frames queued",
         0,
         frames_of(&mut places, 16, 64, &[0u8; 64]),
         2,
-    );
+    )?;
     let c = print::row(
+        rt,
         b,
-        b"case 2, payload 8 at MTU 8, frames queued",
+        "case 2, payload 8 at MTU 8, frames queued",
         0,
         frames_of(&mut places, 16, 8, &[0u8; 8]),
         2,
-    );
+    )?;
     print::row(
+        rt,
         c,
-        b"case 2, payload 1024 at MTU 8, frames queued",
+        "case 2, payload 1024 at MTU 8, frames queued",
         0,
         frames_of(&mut places, 256, 8, &[0u8; 1024]),
         147,
@@ -280,10 +313,10 @@ pub(crate) fn lengths(tally: Tally) -> Tally {
 }
 
 // Case 2: thirteen zeros at MTU 8, the CRC split; case 5: an anonymous payload 2A under node 125.
-pub(crate) fn split_crc(tally: Tally) -> Tally {
+pub(crate) fn split_crc(rt: &impl Print, tally: Tally) -> io::Result<Tally> {
     let mut places = [[0u8; 76]; 16];
     let queue = send_split(&mut places);
-    show_split(Shown { tally, queue }, &places)
+    show_split(rt, Shown { tally, queue }, &places)
 }
 
 fn send_split(places: &mut [Place]) -> ArrayQueue {
@@ -293,40 +326,44 @@ fn send_split(places: &mut [Place]) -> ArrayQueue {
     send(a, places, 8, nobody, 0, b"\x2A")
 }
 
-fn show_split(shown: Shown, places: &[Place]) -> Tally {
+fn show_split(rt: &impl Print, shown: Shown, places: &[Place]) -> io::Result<Tally> {
     let a = next(
+        rt,
         shown,
-        b"case 2, thirteen zeros, frame 1",
+        "case 2, thirteen zeros, frame 1",
         places,
         0x1061_002A,
         b"\x00\x00\x00\x00\x00\x00\x00\xA0",
-    );
+    )?;
     let b = next(
+        rt,
         a,
-        b"case 2, thirteen zeros, frame 2, the CRC's high byte in it",
+        "case 2, thirteen zeros, frame 2, the CRC's high byte in it",
         places,
         0x1061_002A,
         b"\x00\x00\x00\x00\x00\x00\x28\x00",
-    );
+    )?;
     let c = next(
+        rt,
         b,
-        b"case 2, thirteen zeros, frame 3, the CRC's low byte in it",
+        "case 2, thirteen zeros, frame 3, the CRC's low byte in it",
         places,
         0x1061_002A,
         b"\x0C\x60",
-    );
+    )?;
     let d = next(
+        rt,
         c,
-        b"case 5, anonymous payload 2A, under node 125",
+        "case 5, anonymous payload 2A, under node 125",
         places,
         0x1161_007D,
         b"\x2A\xE0",
-    );
-    d.tally
+    )?;
+    Ok(d.tally)
 }
 
 // Case 13: IDs 5, 5 pushed, a 5 returned: the returned one, of stamp 3, comes out first.
-pub(crate) fn returned_first(tally: Tally) -> Tally {
+pub(crate) fn returned_first(rt: &impl Print, tally: Tally) -> io::Result<Tally> {
     let mut places = [[0u8; 76]; 16];
     let first = Marks {
         stamp: 1,
@@ -351,15 +388,17 @@ pub(crate) fn returned_first(tally: Tally) -> Tally {
     let out = d.held.marks;
     let then = e.held.marks;
     let f = print::row(
+        rt,
         tally,
-        b"case 13, stamp of the first out",
+        "case 13, stamp of the first out",
         0,
         out.stamp as u64,
         3,
-    );
+    )?;
     print::row(
+        rt,
         f,
-        b"case 13, stamp of the second out",
+        "case 13, stamp of the second out",
         0,
         then.stamp as u64,
         1,
@@ -367,42 +406,47 @@ pub(crate) fn returned_first(tally: Tally) -> Tally {
 }
 
 // Refusals of a send, each by its number.
-pub(crate) fn refusals(tally: Tally) -> Tally {
+pub(crate) fn refusals(rt: &impl Print, tally: Tally) -> io::Result<Tally> {
     let mut places = [[0u8; 76]; 16];
     let scan = cases::message(4, 256, Source::Node(CanNodeId(42)));
     let nobody = cases::message(4, 256, Source::Anonymous);
     let urgent = cases::message(8, 256, Source::Node(CanNodeId(42)));
     let a = print::row(
+        rt,
         tally,
-        b"a send at MTU 16, refusal",
+        "a send at MTU 16, refusal",
         0,
         answer(&mut places, 16, scan, b""),
         9,
-    );
+    )?;
     let b = print::row(
+        rt,
         a,
-        b"a send at priority 8, refusal",
+        "a send at priority 8, refusal",
         0,
         answer(&mut places, 8, urgent, b""),
         12,
-    );
+    )?;
     let c = print::row(
+        rt,
         b,
-        b"a send of 1025 bytes, refusal",
+        "a send of 1025 bytes, refusal",
         0,
         answer(&mut places, 8, scan, &[0u8; 1025]),
         10,
-    );
+    )?;
     let d = print::row(
+        rt,
         c,
-        b"an anonymous send of 8 bytes at MTU 8, refusal",
+        "an anonymous send of 8 bytes at MTU 8, refusal",
         0,
         answer(&mut places, 8, nobody, b"12345678"),
         11,
-    );
+    )?;
     print::row(
+        rt,
         d,
-        b"a send of 1024 bytes at MTU 8 to 16 places, refusal",
+        "a send of 1024 bytes at MTU 8 to 16 places, refusal",
         0,
         answer(&mut places, 8, scan, &[0u8; 1024]),
         13,

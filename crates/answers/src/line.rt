@@ -99,7 +99,7 @@ fn is_marked(marks: Marks, record: Record) -> bool {
 fn is_filled(held: Held, record: Record) -> bool {
     let bytes = held.bytes;
     let wanted = record.data;
-    check::same(&bytes, &wanted)
+    bytes == wanted
 }
 
 fn is_frame(held: Held, record: Record) -> bool {

@@ -18,6 +18,8 @@ use rules::subscription::{Port, Settings};
 use rules::types::SubjectId;
 use rx::subscription::Subscription;
 use slots::Slots;
+use std::io;
+use std::io::Read;
 use tally::Counts;
 use tracker::CanTransferIdTracker;
 use tx::CanTransmitter;
@@ -129,37 +131,40 @@ fn replay(
 
 // Replays so many records, and counts.
 fn replay_all(
+    list: &mut impl Read,
     count: u32,
     places: &mut Places,
     slots: &mut Slots,
     store: &mut Store,
     right: &mut Counts,
     wrong: &mut Counts,
-) {
+) -> io::Result<()> {
     let mut desk = fresh();
-    let mut i = 0;
-    while i < count {
-        let record = record::next();
+    for _ in 0..count {
+        let record = record::next(list)?;
         let replayed = replay(desk, places, slots, store, record);
         tally::count(right, wrong, record.kind, replayed.right);
         desk = replayed.desk;
-        i += 1;
     }
+    Ok(())
 }
 
-fn main() {
+fn main(rt: HostRuntime) -> io::Result<()> {
     let mut places = [[0u8; 76]; 256];
     let mut slots = [[0u32; 4]; 128];
     let mut store = [0u8; 131072];
     let mut right = [0u64; 17];
     let mut wrong = [0u64; 17];
+    let mut list = rt.reader();
+    let count = record::count(&mut list)?;
     replay_all(
-        record::count(),
+        &mut list,
+        count,
         &mut places,
         &mut slots,
         &mut store,
         &mut right,
         &mut wrong,
-    );
-    tally::show(&right, &wrong);
+    )?;
+    tally::show(&rt, &right, &wrong)
 }

@@ -9,11 +9,9 @@ fn stepped(x: u32) -> u32 {
 pub(crate) fn of(seed: u32) -> [u8; 1024] {
     let mut bytes = [0u8; 1024];
     let mut x = seed;
-    let mut i = 0;
-    while i < 1024 {
+    for byte in bytes.iter_mut() {
         x = stepped(x);
-        bytes[i] = record::low8(x >> 24);
-        i += 1;
+        *byte = record::low8(x >> 24);
     }
     bytes
 }
@@ -29,10 +27,8 @@ fn mixed(mix: u32, byte: u8) -> u32 {
 
 pub(crate) fn mix(bytes: &[u8]) -> u32 {
     let mut mix = 2_166_136_261;
-    let mut i = 0;
-    while i < bytes.len() {
-        mix = mixed(mix, bytes[i]);
-        i += 1;
+    for byte in bytes {
+        mix = mixed(mix, *byte);
     }
     mix
 }

@@ -1,5 +1,6 @@
 // The records of the list, read one by one from standard input. Their format stands at the head of oracle/compare/src/answers.rs.
-use libc::STDIN_FILENO;
+use std::io;
+use std::io::Read;
 
 // A call with the original's answer; what the words say depends on the kind.
 #[derive(Clone, Copy)]
@@ -42,18 +43,32 @@ fn word(head: &[u8; 40], n: usize) -> u32 {
     joined(head[at], head[at + 1], head[at + 2], head[at + 3])
 }
 
-// The data behind a head.
-fn read_data(length: usize) -> [u8; 64] {
-    let mut data = [0u8; 64];
-    if length <= 64 {
-        io::read_full(STDIN_FILENO, &mut data[..length]);
+// Fills the buffer; where the list has ended, what is left of it stays as it is.
+fn fill(list: &mut impl Read, buffer: &mut [u8]) -> io::Result<()> {
+    let mut filled = 0;
+    while filled < buffer.len() {
+        let more = list.read(&mut buffer[filled..])?;
+        if more == 0 {
+            return Ok(());
+        }
+        filled += more;
     }
-    data
+    Ok(())
 }
 
-fn read(head: &[u8; 40]) -> Record {
+// The data behind a head.
+fn read_data(list: &mut impl Read, length: usize) -> io::Result<[u8; 64]> {
+    let mut data = [0u8; 64];
+    if length <= 64 {
+        fill(list, &mut data[..length])?;
+    }
+    Ok(data)
+}
+
+fn read(list: &mut impl Read, head: &[u8; 40]) -> io::Result<Record> {
     let length = joined(head[36], head[37], 0, 0) as usize;
-    Record {
+    let data = read_data(list, length)?;
+    Ok(Record {
         kind: head[0],
         what: head[1],
         refusal: head[2],
@@ -66,25 +81,25 @@ fn read(head: &[u8; 40]) -> Record {
         w5: word(head, 5),
         w6: word(head, 6),
         length,
-        data: read_data(length),
-    }
+        data,
+    })
 }
 
 // The next record; where the list has ended, one of kind 0, which there is not.
-pub(crate) fn next() -> Record {
+pub(crate) fn next(list: &mut impl Read) -> io::Result<Record> {
     let mut head = [0u8; 40];
-    io::read_full(STDIN_FILENO, &mut head);
-    read(&head)
+    fill(list, &mut head)?;
+    read(list, &head)
 }
 
 // How many records the list has; none of a list of another format.
-pub(crate) fn count() -> u32 {
+pub(crate) fn count(list: &mut impl Read) -> io::Result<u32> {
     let mut head = [0u8; 8];
-    io::read_full(STDIN_FILENO, &mut head);
+    fill(list, &mut head)?;
     if joined(head[4], head[5], head[6], head[7]) != 1 {
-        return 0;
+        return Ok(0);
     }
-    joined(head[0], head[1], head[2], head[3])
+    Ok(joined(head[0], head[1], head[2], head[3]))
 }
 
 // What a record says was answered, as one number.

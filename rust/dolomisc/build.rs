@@ -1,4 +1,4 @@
-//! Finds `libdolomisc.a`: in the folder that DOLOMISC_LIB_DIR names, or where `rt staticlib dolomisc` writes it in this repository.
+//! Finds `libdolomisc.a`: in the folder that DOLOMISC_LIB_DIR names, or where `tools/archive` puts it in this repository.
 use std::env;
 use std::path::PathBuf;
 
@@ -12,7 +12,7 @@ fn main() {
     let archive = folder.join("libdolomisc.a");
     println!("cargo:rerun-if-changed={}", archive.display());
     if !archive.exists() {
-        panic!("{} is not there: run `rt staticlib dolomisc` in the repository, or set DOLOMISC_LIB_DIR to the folder of the archive", archive.display());
+        panic!("{} is not there: run `tools/archive` in the repository, or set DOLOMISC_LIB_DIR to the folder of the archive", archive.display());
     }
     println!("cargo:rustc-link-search=native={}", folder.display());
     println!("cargo:rustc-link-lib=static=dolomisc");

@@ -1,8 +1,8 @@
 -- Past the end there are no words, which are read as a slot with no session.
 use Rattle.std.proofs.Common.{sym, ap, ◌∙◌, [], get_or, eqb}
-use mathlib.Core.Bool.{and-false}
-use lib.ListN.{get_or-eq_default}
-use borrow.Author.Tests.{eq-eqb, ne_eqb}
+use Rattle.std.proofs.Math.Bool.{and-false}
+use Rattle.std.proofs.Math.ListN.{get_or-eq_default}
+use Rattle.std.proofs.lemmas.Bool.{eq-eqb, ne_eqb}
 use Rattle.slots.specs.Words.{slot_of}
 use Rattle.slots.specs.Middle.{slot_awaits}
 use Rattle.slots.proofs.Words.{fresh_words}

@@ -1,6 +1,6 @@
 -- Past the end there are no words, and no words are read as a fresh slot.
 use Rattle.std.proofs.Common.{sym, ap, ◌∙◌, []}
-use lib.ListN.{get_or-eq_default}
+use Rattle.std.proofs.Math.ListN.{get_or-eq_default}
 use Rattle.slots.specs.Words.{slot_of}
 use Rattle.slots.proofs.Words.{fresh_words}
 use Rattle.slots.proofs.load.Goals as goal

@@ -1,6 +1,6 @@
 -- Past the end there are no words, and of no words each is read as 0.
 use Rattle.std.proofs.Common.{refl, sym, ap, []}
-use lib.ListN.{get_or-eq_default}
+use Rattle.std.proofs.Math.ListN.{get_or-eq_default}
 use Rattle.slots.specs.Middle.{progress_in}
 use Rattle.slots.proofs.so_far.Goals as goal
 

@@ -1,7 +1,7 @@
 -- The window is a word and the next; the five bits that are stepped in it are the destination's number.
 use Rattle.std.proofs.Common.{rules, ◌≡◌, refl, ap, ◌∙◌, [], ◌∷◌, ℕ, suc, ◌+◌, ◌-◌, ◌*◌, ◌/◌, ◌%◌, ◌^◌, ◌<◌, arith, add-one, Fits, w32, lit<, bit_and, bit_or, get_or, take, drop}
 use Rattle.std.proofs.Math.ListN.{set}
-use lib.Bits.{and_mask, and_le_r}
+use Rattle.std.proofs.lemmas.Nat.{and_mask, and_le_r}
 use Rattle.laws.specs.Digits.{value_of}
 use Rattle.laws.proofs.Bits.{join}
 use Rattle.laws.proofs.Digits.{none_digits, cons_digits}

@@ -1,6 +1,6 @@
 -- The node's own constructor refuses where the book does, and then words that write the same numbers are the same words.
 use Rattle.std.proofs.Common.{rules, ◌≡◌, sym, ℕ, ◌≤◌, ◌<◌, ⊎_elim, arith, Fits, w32, get_or}
-use borrow.Author.Tests.{le-leb, lt-leb}
+use Rattle.std.proofs.lemmas.Bool.{le-leb, lt-leb}
 use Rattle.laws.proofs.Choose.{at_most_or_above}
 use Rattle.rules.specs.Limits.{greatest_node, tried_node}
 use Rattle.rules.specs.declared.refusal.Refusal.{Refusal}

@@ -1,4 +1,4 @@
-use Rattle.std.proofs.Common.{arith, ◌≡◌, ◌+◌, ◌-◌, length, ℕ}
+use Rattle.std.proofs.Common.{arith, ◌≡◌, ◌+◌, ◌-◌, length}
 use Rattle.std.specs.Prelude.{min}
 use Rattle.blocks.proofs.Laid.{reach}
 use Rattle.blocks.proofs.sixteens.Goals as goal

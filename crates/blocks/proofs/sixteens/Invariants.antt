@@ -1,5 +1,5 @@
 -- The loop keeps: the first i bytes are those of src, or all of them, and the others are as before. Each block begins within them, or at their end.
-use Rattle.std.proofs.Common.{◌≡◌, ◌+◌, ◌-◌, ◌<◌, length, ℕ}
+use Rattle.std.proofs.Common.{◌≡◌, ◌+◌, ◌-◌, ◌<◌}
 use Rattle.std.specs.Prelude.{min}
 use Rattle.blocks.proofs.Laid.{begun}
 use Rattle.blocks.proofs.sixteens.Given as goal

@@ -1,8 +1,6 @@
 -- The gap that was made is where a return puts the frame, and the ring starts one place back.
-use Rattle.std.proofs.Common.{ap, [], ℕ, ◌-◌, ◌<◌, arith, length, get_or}
-use Rattle.queue.specs.declared.ArrayQueue.{ArrayQueue}
-use Rattle.queue.specs.Ring.{one_back}
-use Rattle.queue.proofs.State.{Sound, with_room}
+use Rattle.std.proofs.Common.{ap, [], ℕ, ◌-◌, arith, get_or}
+use Rattle.queue.proofs.State.{with_room}
 use Rattle.queue.proofs.Putting.{opens}
 use Rattle.queue.proofs.Slots.{slot_in, slot_back}
 use Rattle.queue.proofs.ArrayQueue.open_before.Goals as goal

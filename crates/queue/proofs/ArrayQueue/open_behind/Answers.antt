@@ -1,6 +1,6 @@
 -- The gap that was made is where a push puts the frame, and the ring starts where it did.
-use Rattle.std.proofs.Common.{refl, arith, length, ◌<◌}
-use Rattle.queue.proofs.State.{Sound, with_room}
+use Rattle.std.proofs.Common.{refl, arith}
+use Rattle.queue.proofs.State.{with_room}
 use Rattle.queue.proofs.Putting.{opens}
 use Rattle.queue.proofs.ArrayQueue.open_behind.Goals as goal
 

@@ -1,7 +1,7 @@
 -- Where a frame is queued the first stands at the head.
-use Rattle.std.proofs.Common.{sym, ◌∙◌, arith, length, ◌<◌}
+use Rattle.std.proofs.Common.{sym, ◌∙◌, arith}
 use Rattle.queue.proofs.Popping.{at_head}
-use Rattle.queue.proofs.State.{Sound, with_frames}
+use Rattle.queue.proofs.State.{with_frames}
 use Rattle.queue.proofs.ArrayQueue.peek_frame.Goals as goal
 
 pub offset_bounds-places-first : goal.offset_bounds-places-first

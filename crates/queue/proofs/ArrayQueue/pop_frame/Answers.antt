@@ -1,6 +1,5 @@
 -- The queue without its first frame starts one place on.
-use Rattle.std.proofs.Common.{arith, length, ◌<◌}
-use Rattle.queue.proofs.State.{Sound}
+use Rattle.std.proofs.Common.{arith}
 use Rattle.queue.proofs.Popping.{pops_first, found_queued}
 use Rattle.queue.proofs.ArrayQueue.pop_frame.Goals as goal
 

@@ -1,10 +1,9 @@
 -- The frame has one byte more than its part. Where the answer is that it is placed, the queue is sound and not full, and the frame is put by its rule.
-use Rattle.std.proofs.Common.{◌≡◌, ◌+◌, ◌<◌, [], ◌∷◌, rules, sym, arith, length, length-append}
+use Rattle.std.proofs.Common.{[], ◌∷◌, rules, sym, arith, length-append}
 use Rattle.rules.specs.Frames.{frame}
 use Rattle.rules.specs.Transfer.{tailed}
 use Rattle.rules.specs.Queue.{pushed}
 use Rattle.queue.specs.Queue.{free}
-use Rattle.queue.proofs.State.{Sound}
 use Rattle.queue.proofs.Putting.{placed_fits, placed_in, places_it}
 use Rattle.queue.proofs.ArrayQueue.push_tailed.Goals as goal
 

@@ -1,7 +1,6 @@
 -- Where the answer is that a frame is placed, the queue is sound and not full.
-use Rattle.std.proofs.Common.{refl, arith, length, ◌<◌}
+use Rattle.std.proofs.Common.{refl, arith}
 use Rattle.rules.specs.Frames.{frame}
-use Rattle.queue.proofs.State.{Sound}
 use Rattle.queue.proofs.Putting.{placed_in}
 use Rattle.queue.proofs.ArrayQueue.return_frame.Goals as goal
 

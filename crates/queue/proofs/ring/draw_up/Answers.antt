@@ -1,6 +1,5 @@
-use Rattle.std.proofs.Common.{◌≡◌, ◌∙◌, ◌+◌, ◌≤◌, ◌<◌, ℕ, [], sym, arith, get_or}
+use Rattle.std.proofs.Common.{◌∙◌, ◌+◌, ◌≤◌, ◌<◌, [], sym, arith, get_or}
 use Rattle.queue.specs.Place.{frame_of}
-use Rattle.queue.specs.Ring.{slot_of}
 use Rattle.queue.proofs.Slots.{slot_in, slot_zero, to_behind}
 use Rattle.queue.proofs.Gaps.{below_none, below_more, below_found, below_all}
 use Rattle.queue.proofs.ring.draw_up.Goals as goal

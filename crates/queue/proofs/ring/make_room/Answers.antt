@@ -1,6 +1,5 @@
-use Rattle.std.proofs.Common.{◌≡◌, ◌∙◌, ◌+◌, ◌-◌, ◌≤◌, ◌<◌, ℕ, [], arith, get_or}
+use Rattle.std.proofs.Common.{◌∙◌, ◌-◌, ◌≤◌, ◌<◌, [], arith, get_or}
 use Rattle.queue.specs.Place.{frame_of}
-use Rattle.queue.specs.Ring.{slot_of}
 use Rattle.queue.proofs.Slots.{slot_in, to_before}
 use Rattle.queue.proofs.Gaps.{above_more, above_found, above_all}
 use Rattle.queue.proofs.ring.make_room.Goals as goal

@@ -1,5 +1,5 @@
 -- From the verdict to what a send promises: a refused send changes nothing but its count, a done one has put the frames of the published rule.
-use Rattle.std.proofs.Common.{◌≡◌, ℕ, ◌-◌, List, length, sym, refl, ap, ◌∙◌, subst, arith}
+use Rattle.std.proofs.Common.{◌≡◌, ℕ, List, length, sym, refl, ap, ◌∙◌, subst, arith}
 use Rattle.rules.specs.declared.refusal.Refusal.{Refusal}
 use Rattle.rules.specs.declared.stats.FrameStats.{FrameStats}
 use Rattle.rules.specs.declared.send.Transfer.{Transfer}
@@ -7,7 +7,6 @@ use Rattle.rules.specs.declared.send.Outgoing.{Outgoing}
 use Rattle.rules.specs.declared.send.Judged.{Judged}
 use Rattle.rules.specs.declared.send.Judged.TheVariants.{Goes, Refused}
 use Rattle.rules.specs.declared.send.Sending.TheVariants.{Done, Refused as NotDone}
-use Rattle.rules.specs.Plan.{frames}
 use Rattle.rules.specs.Transfer.{frames_of}
 use Rattle.rules.specs.Sending.{counted, marks_of}
 use Rattle.rules.proofs.Transfer.{frames_count}

@@ -12,6 +12,7 @@ use rules::send::{Judged, Outgoing, Transfer};
 use rules::stats::Planned;
 use rules::types::{CanTransferId, TriedCanTransferId};
 
+#[tactic(auto, unfolding(rules::specs::Sending::judged))]
 pub(crate) fn judge(mtu: usize, transfer: Transfer, payload: &[u8]) -> Judged
     ensures { result ≡ judged mtu transfer payload.now }
 {

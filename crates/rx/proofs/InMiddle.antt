@@ -1,5 +1,5 @@
 -- The short way of a frame in the middle of a transfer: what the rules do with the frame is what the short way does.
-use Rattle.std.proofs.Common.{◌≡◌, ℕ, ◌+◌, ◌-◌, ◌*◌, ◌%◌, ◌<◌, ◌≤◌, min, Bool, true, false, cond, not, ◌&&◌, eqb, leb, List, [], length, get_or, take, drop, set, sym, refl, ap, ◌∙◌, arith, ne_eqb, le-leb, leb-true}
+use Rattle.std.proofs.Common.{◌≡◌, ℕ, ◌+◌, ◌-◌, ◌*◌, ◌%◌, ◌<◌, ◌≤◌, min, Bool, true, false, cond, not, eqb, leb, List, [], length, get_or, take, drop, set, sym, refl, ap, ◌∙◌, arith, ne_eqb, le-leb, leb-true}
 use mathlib.Core.Bool.{beq, false≢true}
 use borrow.Rule.Slice.PartMut.{put_mid}
 use Rattle.laws.proofs.Choose.{both_true}
@@ -25,7 +25,7 @@ use Rattle.rules.specs.Slot.{with_session, admitted}
 use Rattle.rules.specs.Sending.{unnamed}
 use Rattle.rules.specs.Session.{awaits, joined, stored}
 use Rattle.rules.specs.Answers.{Answer, nothing}
-use Rattle.rules.specs.Source.{Turn, leaves, continued, in_session, goes_on}
+use Rattle.rules.specs.Source.{leaves, continued, in_session, goes_on}
 use Rattle.rules.specs.Receiver.{wants, before_tail, arrival_of, addressed, reading, source_in, by_source, part_of, with_part}
 use Rattle.rules.proofs.Receiver.{source_read}
 use Rattle.wire.specs.Addressed.{comes_to}

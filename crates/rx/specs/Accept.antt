@@ -15,7 +15,6 @@ use Rattle.rules.specs.Slot.{fresh_slot, admitted}
 use Rattle.rules.specs.Answers.{Answer, nothing, answer_from}
 use Rattle.rules.specs.Source.{Turn, goes_on}
 use Rattle.rules.specs.Receiver.{Receiver, Outcome, part_of, with_part, judged}
-use Rattle.rx.specs.declared.subscription.Subscription.{Subscription}
 use Rattle.rx.specs.declared.subscription.Subscribed.{Subscribed}
 use Rattle.rx.specs.declared.subscription.Subscribed.TheVariants.{Made, Refused}
 use Rattle.slots.specs.Words.{words_of, slot_of}

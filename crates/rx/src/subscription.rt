@@ -32,6 +32,7 @@ pub enum Subscribed {
 
 impl Subscription {
     // A subscription whose 128 slots have heard nothing yet. Refuses by 12, 8; the slots are then unchanged.
+    #[tactic(auto, unfolding(slots::specs::Words::words_of))]
     pub fn new(port: Port, timeout: u32, extent: usize, slots: &mut Slots) -> Subscribed
         ensures result_value { settings_made result ≡ made port timeout extent }
         ensures slots_after { slots.new ≡ words_made (made port timeout extent) slots.old }
@@ -112,6 +113,7 @@ fn judge(
 }
 
 // What the frame is to the subscription, whatever its slots.
+#[tactic(auto, unfolding(rules::specs::Receiver::reading))]
 fn read(port: Port, marks: Marks, bytes: &[u8]) -> Reading
     ensures { result ≡ reading port (frame marks bytes.now) }
 {
@@ -256,6 +258,7 @@ fn accept_from(
 }
 
 // The ID rule: a repeat, or go on, with a slot that was reset where the ID is a strange one.
+#[tactic(auto, unfolding(rules::specs::Slot::admitted))]
 fn admit(timeout: u32, slot: Slot, transfer_id: CanTransferId, stamp: u32) -> Admitted
     ensures { result ≡ admitted timeout slot transfer_id stamp }
 {
@@ -278,6 +281,7 @@ fn admit(timeout: u32, slot: Slot, transfer_id: CanTransferId, stamp: u32) -> Ad
 }
 
 // Whether the last time is too long ago, unknown, or not to be compared.
+#[tactic(auto, using(crate::proofs::Ages::age_is))]
 fn timed_out(timeout: u32, last_time: LastTime, stamp: u32) -> bool
     ensures { result ≡ timed_out timeout last_time stamp }
 {

@@ -1,0 +1,26 @@
+-- A frame whose ID speaks to the port is one of the source that its ID names, with the tail byte that was looked at.
+use Rattle.std.proofs.Common.{◌≡◌, ◌-◌, ◌%◌, ◌<◌, ◌≤◌, cond, length, take, sym, refl, ap, ◌∙◌, arith}
+use Rattle.rules.specs.declared.types.CanNodeId.{CanNodeId}
+use Rattle.rules.specs.Limits.{nodes, greatest_frame}
+use Rattle.rules.specs.Frames.{frame}
+use Rattle.rules.specs.Answers.{nothing}
+use Rattle.rules.specs.Receiver.{arrival_of}
+use Rattle.rx.specs.Accept.{closes, in_words}
+use Rattle.rx.proofs.InMiddle.{of_source}
+use Rattle.rx.proofs.middle.joined.Goals as goal
+
+pub returns : goal.returns
+returns c =
+    let a = c.args in
+    let b = a.bytes.now in
+    let f = frame a.marks b in
+    let some : 0 < length b = omega arith in
+    let few : length b ≤ greatest_frame = omega arith in
+    let o = of_source a.settings a.slots.now a.store.now f c.requires (some, few) (sym c.comes_to.ensures ∙ c.if-not-comes_to.false) in
+    let x = arrival_of f o.0 in
+    let same = closes nothing a.slots.now a.store.now in
+    let low : a.marks.id % 256 % nodes ≡ a.marks.id % nodes = omega arith in
+    let own = ap (λ (n : CanNodeId). n.0) c.from_truncating-node.ensures ∙ low in
+    c.lay.ensures x (sym c.parse_tail_byte-tail.ensures) refl
+    ∙ ap (λ n. cond c.lay.result (in_words a.settings a.slots.now a.store.now n x (take (length b - 1) b)) same) own
+    ∙ ap (λ z. cond c.lay.result z same) (sym o.1)

@@ -1,8 +1,8 @@
 -- When no full frame of payload is left, the rest with its padding and CRC is the last frame or the last two.
-use Rattle.std.proofs.Common.{◌≡◌, ◌+◌, ◌-◌, true, rules, length, take, drop, sym, ◌∙◌, subst, arith, length-drop, length-take, length-take-le, take_all}
+use Rattle.std.proofs.Common.{◌≡◌, ℕ, ◌+◌, ◌-◌, true, rules, length, take, drop, sym, ap, ◌∙◌, subst, arith, length-drop, length-take, length-take-le, take_all}
 use lib.Seq.{drop-append-le}
 use Rattle.rules.specs.Crc.{crc_start}
-use Rattle.rules.specs.Transfer.{with_crc, cut}
+use Rattle.rules.specs.Transfer.{padded, with_crc, cut}
 use Rattle.rules.proofs.Transfer.{cut_count}
 use Rattle.tx.specs.Fits.{Fits, Last}
 use Rattle.tx.proofs.Parts.{zeros}
@@ -67,4 +67,5 @@ returns c =
     let t : take n (drop l.at p) ≡ drop l.at p = take_all n (drop l.at p) (omega arith) in
     let r = rw (t, k) at c.close.ensures in
     let e : take (n + a.padding + 2) c.close.new.rest ≡ drop l.at (whole p d.result a.padding) = r ∙ sym (drop-append-le l.at p (with_crc d.result (zeros a.padding)) l.invariant.within) in
-    rw (crc_behind crc_start a.padding p, ← d.ensures) (owes_paid l.invariant.owed (rw e at c.last.ensures))
+    let w : whole p d.result a.padding ≡ with_crc crc_start (padded a.padding p) = ap (λ (x : ℕ). whole p x a.padding) d.ensures ∙ sym (crc_behind crc_start a.padding p) in
+    rw (← w) (owes_paid l.invariant.owed (rw e at c.last.ensures))

@@ -31,7 +31,7 @@ use Rattle.queue.specs.Place.{shown}
 use Rattle.queue.proofs.Shown.{shown_first}
 use Rattle.queue.proofs.Drain.{Run, stop, next}
 use Rattle.acceptance.specs.Runs.{Lent}
-use Rattle.acceptance.specs.EndToEnd.{arrived_at, SendDone, ForUs, judged_of, frames_out, scan_of, with_shown, handed_out, HandedOver, OneScan}
+use Rattle.acceptance.specs.EndToEnd.{arrived_at, SendDone, ForUs, judged_of, frames_out, scan_of, with_shown, handed_out, OneScan}
 use Rattle.acceptance.proofs.Granted.{sound}
 use Rattle.acceptance.proofs.Demand3.{demand3_of_code}
 

@@ -11,7 +11,6 @@ use Rattle.rules.specs.declared.subscription.Settings.{Settings}
 use Rattle.rules.specs.declared.subscription.Subscribing.{Subscribing}
 use Rattle.rules.specs.declared.subscription.Subscribing.TheVariants.{Made, Refused}
 use Rattle.rx.specs.Accept.{Closing}
-use Rattle.dolomisc.specs.declared.headers.FlatHeader.{FlatHeader}
 use Rattle.dolomisc.specs.declared.receiving.FlatSubscription.{FlatSubscription}
 use Rattle.dolomisc.specs.declared.receiving.FlatSubscribed.{FlatSubscribed}
 use Rattle.dolomisc.specs.declared.receiving.Span.{Span}

@@ -1,5 +1,5 @@
 -- Reading a CAN ID that was made gives the header back, for each kind.
-use Rattle.std.proofs.Common.{◌≡◌, ℕ, ◌+◌, ◌-◌, ◌*◌, ◌^◌, ◌≤◌, Bool, true, false, cond, ◌&&◌, leb, List, refl, ap, ◌∙◌, arith, le-leb, leb-true}
+use Rattle.std.proofs.Common.{◌≡◌, ℕ, ◌+◌, ◌*◌, ◌^◌, ◌≤◌, Bool, true, false, cond, ◌&&◌, leb, List, refl, ap, ◌∙◌, arith, le-leb, leb-true}
 use Rattle.laws.proofs.Choose.{both_true}
 use Rattle.laws.proofs.Bits.{field_of, flag_le, flag_read}
 use Rattle.rules.specs.declared.types.Priority.{Priority}

@@ -1,7 +1,7 @@
 -- DOCUMENT 01'S TWO EXCEPTIONS ARE WHERE THE RULE TAKES A FIRST FRAME ELSEWHERE than to a session of its own: nowhere, where it is a repeat, and to an older
 -- session, where its ID is expected. All is read off the ID rule's three outcomes: only a slot that goes on as it was can have a session, and then the ID is the
 -- expected one.
-use Rattle.std.proofs.Common.{◌≡◌, ℕ, ◌<◌, Bool, true, false, cond, ◌&&◌, List, length, sym, refl, ap, ◌∙◌, subst, arith}
+use Rattle.std.proofs.Common.{◌≡◌, ℕ, ◌<◌, Bool, true, false, cond, List, length, sym, refl, ap, ◌∙◌, subst, arith}
 use mathlib.Core.Bool.{beq}
 use Rattle.laws.proofs.Choose.{either_way}
 use Rattle.rules.specs.declared.receive.Arrival.{Arrival}

@@ -1,5 +1,5 @@
 -- The frames of a send stand together in an ordered queue: behind all whose ID is not above theirs, in front of all whose ID is.
-use Rattle.std.proofs.Common.{◌≡◌, ℕ, ◌<◌, ◌≤◌, Bool, true, false, cond, leb, List, [], ◌∷◌, ◌++◌, map, sym, refl, ap, ◌∙◌, append_assoc, arith, le-ltb, lt-ltb, leb-false, leb-true}
+use Rattle.std.proofs.Common.{◌≡◌, ℕ, ◌<◌, ◌≤◌, Bool, true, false, leb, List, [], ◌∷◌, ◌++◌, map, sym, refl, ap, ◌∙◌, append_assoc, arith, le-ltb, lt-ltb, leb-false, leb-true}
 use Rattle.rules.specs.declared.frame.Marks.{Marks}
 use Rattle.rules.specs.Frames.{Frame, frame}
 use Rattle.rules.specs.Queue.{all_above, pushed, Ordered}

@@ -40,10 +40,10 @@ use Rattle.rx.proofs.Parts.{lent_out, lent_back}
 -- ---- bytes in a part
 
 -- where a source's part took them, it reaches over them
-pub in_part_lem : (bytes store : List ℕ) (e n at total : ℕ) (r : Bool) → at ≡ n * e → r ≡ true
+pub in_part : (bytes store : List ℕ) (e n at total : ℕ) (r : Bool) → at ≡ n * e → r ≡ true
     → r ≡ leb (total + length bytes) (length (take (at + e - at) (drop at store)))
     → total + length bytes ≤ length (part_of e n store)
-in_part_lem bytes store e n at total r place took room =
+in_part bytes store e n at total r place took room =
     let l = leb-true (total + length bytes) (length (take (at + e - at) (drop at store))) (sym room ∙ took) in
     rw (lent_out e n store at place) at l
 
@@ -110,7 +110,7 @@ module _ (a : Arrival) (bytes : List ℕ) (start : a.tail.start ≡ false) (end 
   short_way s words store n at so crc r {after} {part} place far aw took room hp hc ha =
       let e : ℕ = s.extent in
       let own : List ℕ = part_of e n store in
-      let f = in_part_lem bytes store e n at so.total r place took room in
+      let f = in_part bytes store e n at so.total r place took room in
       let b : part ≡ stored (progress_in (get_or words n [])).total bytes own = rw (took, lent_out e n store at place, far) at hp in
       let t : so.total + length bytes ≡ min (length own + 2) ((progress_in (get_or words n [])).total + length bytes) = omega (arith, ap (λ (y : Progress). y.total) far) in
       ap (λ (v : List (List ℕ)). closes nothing v (put_mid at (at + e - at) store part)) ha

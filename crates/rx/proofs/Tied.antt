@@ -110,11 +110,11 @@ module _ (words : List (List ℕ)) (store : List ℕ) where
       let t : Turn = goes_on slot (part_of e n store) a bytes in
       rw (set_map slot_of words n (words_of t.cell.slot), words_read t.cell.slot (fits_kept slot (part_of e n store) a bytes h)) refl
 
-  in-words-tied : (s : Settings) (n : ℕ) (a : Arrival) (bytes : List ℕ) → a.tail.transfer_id.0 < transfer_ids
+  in_words_tied : (s : Settings) (n : ℕ) (a : Arrival) (bytes : List ℕ) → a.tail.transfer_id.0 < transfer_ids
       → viewed_after (in_words s words store n a bytes)
       ≡ at_source s.extent (viewed words store) n (turn s.timeout (cell_at s.extent (viewed words store) n) a bytes)
   unfolding in_words turn cell_at
-  in-words-tied s n a bytes h =
+  in_words_tied s n a bytes h =
       let w : Receiver = viewed words store in
       let rule : Slot → Admitted = λ x. admitted s.timeout x a.tail.transfer_id a.stamp in
       let slot : Slot = slot_of (get_or words n []) in
@@ -132,7 +132,7 @@ module _ (s : Settings) (words : List (List ℕ)) (store : List ℕ) (f : Frame)
       λ n a bytes. (in_words s words store n a bytes, at_source s.extent w n (turn s.timeout (cell_at s.extent w n) a bytes)) in
       ap viewed_after (sym (judged_map s (length store) f same slot (λ c. c.0)))
       ∙ judged_either s (length store) f same slot (λ c. viewed_after c.0 ≡ c.1) (λ answer. refl)
-      (λ n a h k e q. in-words-tied words store s n a (before_tail f.bytes) (id_below s.port f a e))
+      (λ n a h k e q. in_words_tied words store s n a (before_tail f.bytes) (id_below s.port f a e))
       ∙ judged_map s (length store) f same slot (λ c. c.1)
 
   -- what holds of the words as they were, and with any for the frame's source, holds of the words after the frame

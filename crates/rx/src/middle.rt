@@ -119,7 +119,7 @@ fn lay(
 
 // Lays the bytes behind the total that the part has; none where the part does not take them all. Says whether it did.
 fn into(part: &mut [u8], total: usize, bytes: &[u8]) -> bool
-    ensures value { result ≡ nat_le (total + length bytes.now) (length part.old) }
+    ensures taken { result ≡ nat_le (total + length bytes.now) (length part.old) }
     ensures part_after { part.new ≡ (if result then stored total bytes.now part.old else part.old) }
 {
     let end = part.len();

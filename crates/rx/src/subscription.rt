@@ -34,7 +34,7 @@ impl Subscription {
     // A subscription whose 128 slots have heard nothing yet. Refuses by 12, 8; the slots are then unchanged.
     #[tactic(auto, unfolding(slots::specs::Words::words_of))]
     pub fn new(port: Port, timeout: u32, extent: usize, slots: &mut Slots) -> Subscribed
-        ensures result_value { settings_made result ≡ made port timeout extent }
+        ensures subscribed { settings_made result ≡ made port timeout extent }
         ensures slots_after { slots.new ≡ words_made (made port timeout extent) slots.old }
     {
         if !port_valid(port) {

@@ -29,7 +29,7 @@ returns c x p q =
     c.so_far-so_far.ensures
     aw
     c.if-not-into.false
-    c.into.ensures.value
+    c.into.ensures.taken
     c.into.ensures.part_after
     c.digest_seven-crc.ensures
     c.advance.ensures

@@ -11,6 +11,7 @@ pub(crate) fn least(a: usize, b: usize) -> usize
 }
 
 // Lays the bytes behind the total that the part has, as far as the part reaches.
+#[tactic(auto, using(crate::proofs::Parts::lent_rest, crate::proofs::Parts::stored_full))]
 pub(crate) fn store(part: &mut [u8], total: usize, bytes: &[u8])
     ensures { part.new ≡ stored total bytes.now part.old }
 {
@@ -21,6 +22,7 @@ pub(crate) fn store(part: &mut [u8], total: usize, bytes: &[u8])
 }
 
 // The session with a frame's bytes in it.
+#[tactic(auto, unfolding(rules::specs::Session::joined))]
 pub(crate) fn add(session: Session, extent: usize, bytes: &[u8]) -> Session
     requires { extent < 65536 }
     ensures { result ≡ joined extent session bytes.now }

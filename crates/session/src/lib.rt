@@ -38,6 +38,7 @@ pub fn go_on(slot: Slot, part: &mut [u8], arrival: Arrival, bytes: &[u8]) -> Ste
     take(slot, part, arrival, bytes)
 }
 
+#[tactic(auto, unfolding(rules::specs::Source::goes_on))]
 fn take(slot: Slot, part: &mut [u8], arrival: Arrival, bytes: &[u8]) -> Step
     requires { length part.old < 65536 }
     ensures { turn_of result part.new ≡ goes_on slot part.old arrival bytes.now }
@@ -103,6 +104,7 @@ fn open(arrival: Arrival) -> Session
 }
 
 // A frame comes to a session.
+#[tactic(auto, unfolding(rules::specs::Source::in_session))]
 fn accept(slot: Slot, part: &mut [u8], arrival: Arrival, bytes: &[u8], session: Session) -> Step
     requires { length part.old < 65536 }
     ensures { turn_of result part.new ≡ in_session slot part.old arrival bytes.now session }
@@ -130,6 +132,7 @@ fn awaited(session: Session, arrival: Arrival) -> bool
 }
 
 // The session and the part have the frame's bytes.
+#[tactic(auto, unfolding(rules::specs::Source::continued))]
 fn go_on_or_end(slot: Slot, part: &[u8], arrival: Arrival, session: Session) -> Step
     ensures { turn_of result part.now ≡ continued slot part.now arrival session }
 {
@@ -141,6 +144,7 @@ fn go_on_or_end(slot: Slot, part: &[u8], arrival: Arrival, session: Session) -> 
 }
 
 // The end bit: what came before the CRC is delivered, up to the extent, or the session is dropped.
+#[tactic(auto, unfolding(rules::specs::Source::ended))]
 fn end(slot: Slot, part: &[u8], arrival: Arrival, session: Session) -> Step
     ensures { turn_of result part.now ≡ ended slot part.now arrival session }
 {

@@ -118,6 +118,7 @@ fn lay(
 }
 
 // Lays the bytes behind the total that the part has; none where the part does not take them all. Says whether it did.
+#[tactic(auto, using(session::proofs::Parts::lent_rest))]
 fn into(part: &mut [u8], total: usize, bytes: &[u8]) -> bool
     ensures taken { result ≡ nat_le (total + length bytes.now) (length part.old) }
     ensures part_after { part.new ≡ (if result then stored total bytes.now part.old else part.old) }

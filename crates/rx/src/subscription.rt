@@ -55,6 +55,7 @@ impl Subscription {
 
     // Takes a received frame. Refuses by 7, 2, 3, 1, 4, and a frame of another kind, port or destination is not ours: slots and store are then unchanged, as they
     // are by a repeat. Otherwise the rules of the sender's slot decide, which write in that slot and in its part of the store alone.
+    #[tactic(auto, using(crate::proofs::Judging::too_small), unfolding(crate::specs::Accept::accepted))]
     pub fn accept(self, slots: &mut Slots, store: &mut [u8], marks: Marks, bytes: &[u8]) -> Received
         ensures { closes (answer_of result) slots.new store.new ≡ accepted self.settings slots.old store.old (frame marks bytes.now) }
     {
@@ -91,6 +92,7 @@ fn service_valid(port: ServicePort) -> bool
 }
 
 // A frame of any kind, where the store has a part for each source.
+#[tactic(auto, using(crate::proofs::Judging::read_as, crate::proofs::Judging::ours_known), unfolding(crate::specs::Accept::accepted))]
 fn judge(
     settings: Settings,
     slots: &mut Slots,

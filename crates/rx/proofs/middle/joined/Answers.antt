@@ -1,5 +1,5 @@
 -- A frame whose ID speaks to the port is one of the source that its ID names, with the tail byte that was looked at.
-use Rattle.std.proofs.Common.{◌≡◌, ◌-◌, ◌%◌, ◌<◌, ◌≤◌, cond, length, take, sym, refl, ap, ◌∙◌, arith}
+use Rattle.std.proofs.Common.{◌≡◌, ◌-◌, ◌%◌, ◌<◌, ◌≤◌, true, cond, length, take, sym, refl, ap, ◌∙◌, subst, mod-lt, arith, lit<, length-take-le}
 use Rattle.rules.specs.declared.types.CanNodeId.{CanNodeId}
 use Rattle.rules.specs.Limits.{nodes, greatest_frame}
 use Rattle.rules.specs.Frames.{frame}
@@ -16,7 +16,8 @@ returns c =
     let f = frame a.marks b in
     let some : 0 < length b = omega arith in
     let few : length b ≤ greatest_frame = omega arith in
-    let o = of_source a.settings a.slots.now a.store.now f c.requires (some, few) (sym c.comes_to.ensures ∙ c.if-not-comes_to.false) in
+    let comes : c.comes_to.result ≡ true = cc in
+    let o = of_source a.settings a.slots.now a.store.now f c.requires (some, few) (sym c.comes_to.ensures ∙ comes) in
     let x = arrival_of f o.0 in
     let same = closes nothing a.slots.now a.store.now in
     let low : a.marks.id % 256 % nodes ≡ a.marks.id % nodes = omega arith in
@@ -24,3 +25,12 @@ returns c =
     c.lay.ensures x (sym c.parse_tail_byte-tail.ensures) refl
     ∙ ap (λ n. cond c.lay.result (in_words a.settings a.slots.now a.store.now n x (take (length b - 1) b)) same) own
     ∙ ap (λ z. cond c.lay.result z same) (sym o.1)
+
+-- what is laid is less than a frame
+pub lay-requires : goal.lay-requires
+lay-requires c =
+    let b = c.args.bytes.now in
+    let h : length b - 1 ≤ length b = omega arith in
+    let l : length (take (length b - 1) b) < greatest_frame = omega (arith, length-take-le (length b - 1) b h) in
+    let own : c.from_truncating-node.result.0 < nodes = subst (λ (n : CanNodeId). n.0 < nodes) (sym c.from_truncating-node.ensures) (mod-lt _ (lit< tt)) in
+    (own, c.requires, c.if-tail.false, c.if-tail-2.false, l)

@@ -1,5 +1,5 @@
 -- Where the bytes were taken, the short way has done what the rules do.
-use Rattle.std.proofs.Common.{[], get_or, sym, ap, ◌∙◌}
+use Rattle.std.proofs.Common.{◌≡◌, true, [], get_or, sym, ap, ◌∙◌}
 use Rattle.rules.specs.declared.tail.TailByte.{TailByte as Tail}
 use Rattle.slots.specs.Words.{slot_of}
 use Rattle.slots.specs.Middle.{slot_awaits}
@@ -11,7 +11,8 @@ returns c x p q =
     let slot = slot_of (get_or c.args.slots.now c.args.node.0 []) in
     let b = ap (λ (y : Tail). y.start) p ∙ c.requires.2 in
     let e = ap (λ (y : Tail). y.end) p ∙ c.requires.3 in
-    let aw = ap (λ y. slot_awaits slot y x.loopback) p ∙ ap (slot_awaits slot c.args.tail) q ∙ sym c.awaits.ensures ∙ c.if-not-awaits.false in
+    let on : c.awaits.result ≡ true = cc in
+    let aw = ap (λ y. slot_awaits slot y x.loopback) p ∙ ap (slot_awaits slot c.args.tail) q ∙ sym c.awaits.ensures ∙ on in
     short_way
     x
     c.args.bytes.now

@@ -4,30 +4,8 @@ use Rattle.rules.specs.Frames.{frame}
 use Rattle.rules.specs.Answers.{Answer}
 use Rattle.rules.specs.Receiver.{source_in, by_source}
 use Rattle.rx.specs.Accept.{Closing, closes, in_words, accepted}
-use Rattle.rx.proofs.Judging.{read_as, ours_known}
+use Rattle.rx.proofs.Judging.{read_as}
 use Rattle.rx.proofs.subscription.judge.Goals as goal
-
-pub accept_ours-requires : goal.accept_ours-requires
-accept_ours-requires c =
-    (ours_known c.args.settings.port (frame c.args.marks c.args.bytes.now) _ (sym c.read.ensures ∙ c.in-Ours.is), c.requires)
-
-pub returns-in-Refused : goal.returns-in-Refused
-unfolding accepted
-returns-in-Refused c =
-    let a = c.args in
-    let f = frame a.marks a.bytes.now in
-    let same : Answer → Closing = λ x. closes x a.slots.now a.store.now in
-    let slot : ℕ → Arrival → List ℕ → Closing = in_words a.settings a.slots.now a.store.now in
-    sym (read_as a.settings (length a.store.now) f same slot _ c.requires (sym c.read.ensures ∙ c.in-Refused.is))
-
-pub returns-in-NotOurs : goal.returns-in-NotOurs
-unfolding accepted
-returns-in-NotOurs c =
-    let a = c.args in
-    let f = frame a.marks a.bytes.now in
-    let same : Answer → Closing = λ x. closes x a.slots.now a.store.now in
-    let slot : ℕ → Arrival → List ℕ → Closing = in_words a.settings a.slots.now a.store.now in
-    sym (read_as a.settings (length a.store.now) f same slot _ c.requires (sym c.read.ensures ∙ c.in-NotOurs.is))
 
 pub returns-in-Ours : goal.returns-in-Ours
 unfolding accepted

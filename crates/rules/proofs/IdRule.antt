@@ -30,9 +30,9 @@ module _ (timeout : ℕ) (slot : TheSlot) (id stamp : ℕ) where
       }
 
   -- a repeat is in time
-  in-time : Again → timed_out timeout slot.last_time stamp ≡ false
+  in_time : Again → timed_out timeout slot.last_time stamp ≡ false
   unfolding age
-  in-time r = rw (r.seen, lt-leb (2 ^ 31) (age stamp r.last) r.counts, le-ltb timeout (age stamp r.last) r.young) refl
+  in_time r = rw (r.seen, lt-leb (2 ^ 31) (age stamp r.last) r.counts, le-ltb timeout (age stamp r.last) r.young) refl
 
   -- THE ID RULE'S THREE OUTCOMES: what holds of a repeat, of a slot that goes on and of one that is reset holds of what the rule says
   pub id_rule : (P : Admitted → Type 0) → (Again → P Repeat) → ((Again → ⊥) → id ≡ slot.expected.0 → P (On slot))
@@ -43,7 +43,7 @@ module _ (timeout : ℕ) (slot : TheSlot) (id stamp : ℕ) where
       go (eqb id slot.expected.0) refl (eqb ((id + 1) % 32) slot.expected.0) refl (timed_out timeout slot.last_time stamp) refl
     where
       new : (o : Bool) → timed_out timeout slot.last_time stamp ≡ o → o ≡ true → Again → ⊥
-      new o e t r = true≢false (sym t ∙ sym e ∙ in-time r)
+      new o e t r = true≢false (sym t ∙ sym e ∙ in_time r)
 
       go : (same : Bool) → eqb id slot.expected.0 ≡ same → (before : Bool) → eqb ((id + 1) % 32) slot.expected.0 ≡ before
           → (old : Bool) → timed_out timeout slot.last_time stamp ≡ old

@@ -1,4 +1,4 @@
-// The states that the caller keeps, in the words of include/dolomisc.h's structs: a reference to an array is lent where a reference to a struct cannot be.
+// The states that the caller keeps, lent as arrays in the words of include/dolomisc.h's structs.
 ghost use Rattle.std.specs.Prelude.{◌≡◌};
 ghost use Rattle.dolomisc.specs.States.{queue_in, queue_words, transmitter_in, transmitter_words};
 

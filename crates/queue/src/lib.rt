@@ -163,6 +163,7 @@ impl ArrayQueue {
     }
 
     // The frame that leaves next; none of an empty queue.
+    #[tactic(auto, using(crate::proofs::State::with_frames))]
     pub fn peek_frame(self, places: &[Place]) -> Held
         ensures { result ≡ held_of (first (contents self places.now)) }
     {
@@ -174,6 +175,7 @@ impl ArrayQueue {
     }
 
     // Takes the frame that leaves next out of the queue; its place is free at once. An empty queue is unchanged.
+    #[tactic(auto, using(crate::proofs::Popping::found_queued))]
     pub fn pop_frame(self, places: &[Place]) -> Popped
         ensures { Pops self places.now result }
     {

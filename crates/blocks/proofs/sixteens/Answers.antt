@@ -1,10 +1,10 @@
+-- A block begins at i, or where the last one does, and reaches further than the copy so far.
 use Rattle.std.proofs.Common.{arith, ◌≡◌, ◌+◌, ◌-◌, length}
 use Rattle.std.specs.Prelude.{min}
 use Rattle.blocks.proofs.Laid.{reach}
 use Rattle.blocks.proofs.sixteens.Goals as goal
 use Rattle.blocks.proofs.sixteens.Goals.{then-i-last, else-i-last}
 
--- a block begins at i, or where the last one does
 pub loop-i-preserved : goal.loop-i-preserved
 loop-i-preserved c =
     let s = c.args.src.now in

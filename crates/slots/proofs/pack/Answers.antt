@@ -1,3 +1,4 @@
+-- The words are made as the layout says.
 use Rattle.slots.specs.Words.{words_of}
 use Rattle.slots.proofs.pack.Goals as goal
 

@@ -1,3 +1,4 @@
+-- The slot is read as the layout says.
 use Rattle.slots.specs.Words.{slot_of}
 use Rattle.slots.proofs.unpack.Goals as goal
 

@@ -8,9 +8,6 @@ slot-next-requires c =
     let s = (found_queued c.args.self c.args.places.now c.peek_frame-held.result c.peek_frame-held.ensures c.if-not-found.false).0 in
     (omega arith, omega arith, omega arith)
 
-pub overflow_sub-left : goal.overflow_sub-left
-overflow_sub-left c = (found_queued c.args.self c.args.places.now c.peek_frame-held.result c.peek_frame-held.ensures c.if-not-found.false).1
-
 pub returns : goal.returns
 returns c =
     let s = found_queued c.args.self c.args.places.now c.peek_frame-held.result c.peek_frame-held.ensures c.if-not-found.false in

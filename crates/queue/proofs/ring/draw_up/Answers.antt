@@ -1,6 +1,7 @@
-use Rattle.std.proofs.Common.{◌∙◌, ◌+◌, ◌≤◌, ◌<◌, [], sym, arith, get_or}
+-- Each frame that is moved joins those before the gap, and the gap is then one place behind.
+use Rattle.std.proofs.Common.{rules, ◌∙◌, ◌+◌, ◌≤◌, ◌<◌, [], sym, arith, get_or}
 use Rattle.queue.specs.Place.{frame_of}
-use Rattle.queue.proofs.Slots.{slot_in, slot_zero, to_behind}
+use Rattle.queue.proofs.Slots.{slot_zero, to_behind}
 use Rattle.queue.proofs.Gaps.{below_none, below_more, below_found, below_all}
 use Rattle.queue.proofs.ring.draw_up.Goals as goal
 
@@ -8,13 +9,8 @@ pub loop-j-init : goal.loop-j-init
 loop-j-init c = record {
   kept = below_none _ _ _ _ (omega arith) (omega arith) _;
   at_p = sym (slot_zero _ _ (omega arith));
+  inside = omega arith;
 }
-
--- the gap is in the ring
-pub slot-q-requires : goal.slot-q-requires
-slot-q-requires c =
-    let p = slot_in c.args.head c.args.cap c.loop-j.j c.loop-j.p (omega arith) (omega arith) c.loop-j.invariant.at_p in
-    (p, omega arith, omega arith)
 
 -- the place that is looked at is the one behind the gap
 pub returns-then-id-other : goal.returns-then-id-other
@@ -23,16 +19,6 @@ returns-then-id-other c =
     let at_most : c.args.id ≤ (frame_of (get_or c.loop-j.places c.slot-q.result [])).id = omega (arith, c.id_at-other.ensures) in
     below_found _ _ _ _ (omega arith) (omega arith) _ _ _ _ _ (omega arith) c.loop-j-test.true e c.loop-j.invariant.kept at_most
 
-pub offset_bounds-places-p : goal.offset_bounds-places-p
-offset_bounds-places-p c =
-    let p = slot_in c.args.head c.args.cap c.loop-j.j c.loop-j.p (omega arith) (omega arith) c.loop-j.invariant.at_p in
-    omega arith
-
-pub bounds-places-p : goal.bounds-places-p
-bounds-places-p c =
-    let p = slot_in c.args.head c.args.cap c.loop-j.j c.loop-j.p (omega arith) (omega arith) c.loop-j.invariant.at_p in
-    omega arith
-
 pub loop-j-preserved : goal.loop-j-preserved
 loop-j-preserved c =
     let e = c.slot-q.ensures.0 ∙ to_behind c.args.head c.args.cap (c.loop-j.j + 1) c.loop-j.j c.loop-j.p (omega arith) (omega arith) (omega arith) c.loop-j.invariant.at_p in
@@ -40,6 +26,7 @@ loop-j-preserved c =
     record {
       kept = below_more _ _ _ _ (omega arith) (omega arith) _ _ _ _ _ _ (omega arith) c.loop-j-test.true e c.loop-j.invariant.at_p (omega arith) c.loop-j.invariant.kept past;
       at_p = e;
+      inside = search rules;
     }
 
 pub returns : goal.returns

@@ -1,12 +1,9 @@
-use Rattle.std.proofs.Common.{◌∙◌, ◌-◌, ◌≤◌, ◌<◌, [], arith, get_or}
+-- Each frame that is moved joins those behind the gap, and the gap is then one place nearer to the head.
+use Rattle.std.proofs.Common.{rules, ◌∙◌, ◌-◌, ◌≤◌, ◌<◌, [], arith, get_or}
 use Rattle.queue.specs.Place.{frame_of}
-use Rattle.queue.proofs.Slots.{slot_in, to_before}
+use Rattle.queue.proofs.Slots.{to_before}
 use Rattle.queue.proofs.Gaps.{above_more, above_found, above_all}
 use Rattle.queue.proofs.ring.make_room.Goals as goal
-
--- the gap is in the ring
-pub one_back-q-requires : goal.one_back-q-requires
-one_back-q-requires c = slot_in c.args.head c.args.cap c.loop-j.j c.loop-j.p (omega arith) (omega arith) c.loop-j.invariant.at_p
 
 -- the place that is looked at is the one before the gap
 pub returns-then-other-id : goal.returns-then-other-id
@@ -15,16 +12,6 @@ returns-then-other-id c =
     let at_most : (frame_of (get_or c.loop-j.places c.one_back-q.result [])).id ≤ c.args.id = omega (arith, c.id_at-other.ensures) in
     above_found _ _ _ _ (omega arith) (omega arith) _ _ _ _ _ (omega arith) e c.loop-j.invariant.kept at_most
 
-pub offset_bounds-places-p : goal.offset_bounds-places-p
-offset_bounds-places-p c =
-    let p = slot_in c.args.head c.args.cap c.loop-j.j c.loop-j.p (omega arith) (omega arith) c.loop-j.invariant.at_p in
-    omega arith
-
-pub bounds-places-p : goal.bounds-places-p
-bounds-places-p c =
-    let p = slot_in c.args.head c.args.cap c.loop-j.j c.loop-j.p (omega arith) (omega arith) c.loop-j.invariant.at_p in
-    omega arith
-
 pub loop-j-preserved : goal.loop-j-preserved
 loop-j-preserved c =
     let e = c.one_back-q.ensures.0 ∙ to_before c.args.head c.args.cap (c.loop-j.j - 1) c.loop-j.j c.loop-j.p (omega arith) (omega arith) (omega arith) c.loop-j.invariant.at_p in
@@ -32,6 +19,7 @@ loop-j-preserved c =
     record {
       kept = above_more _ _ _ _ (omega arith) (omega arith) _ _ _ _ _ _ (omega arith) e c.loop-j.invariant.at_p (omega arith) c.loop-j.invariant.kept past;
       at_p = e;
+      inside = search rules;
     }
 
 pub returns : goal.returns

@@ -1,3 +1,4 @@
+-- The slot that was loaded is the one that the words say, and what is saved is the slot that the rules leave.
 use Rattle.std.proofs.Common.{◌^◌, ◌<◌, sym, ap, ◌∙◌, arith}
 use Rattle.rules.specs.Slot.{admitted}
 use Rattle.rules.specs.Receiver.{part_of}

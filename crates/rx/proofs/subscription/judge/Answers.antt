@@ -1,3 +1,4 @@
+-- A frame that is ours is answered by its source, with the bytes before its tail byte.
 use Rattle.std.proofs.Common.{ℕ, List, length, sym, ap, ◌∙◌}
 use Rattle.rules.specs.declared.receive.Arrival.{Arrival}
 use Rattle.rules.specs.Frames.{frame}

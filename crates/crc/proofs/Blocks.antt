@@ -1,17 +1,21 @@
 -- The next k bytes at once: the register moved by 8 k bits, and added to it what the number that the bytes write leaves.
 use mathlib.Core.Path.{◌≡◌, refl, sym, ap, ap₂, ◌∙◌}
-use mathlib.Core.List.{List}
+use mathlib.Core.List.{List, [], ◌∷◌, ◌++◌}
 use Prim.Native.Nat.{ℕ, zero, suc, ◌+◌, ◌*◌, ◌/◌, ◌%◌, ◌^◌, ◌≤◌, ◌<◌}
-use native.Mathlib.Nat.{add-zero, mod-lt}
+use native.Mathlib.Nat.{mod-lt}
 use native.Mathlib.Omega.{arith}
 use lib.Dec.{lit<}
-use lib.ListN.{length, get_or, drop, drop_of_length-le}
-use lib.Seq.{drop-cons}
+use lib.ListN.{length, get_or, take, drop, take-append-drop, length-drop}
+use lib.Seq.{take-suc, take_all}
 use lib.Bits.{bit_xor, xor_lt, xor_zero_r, xor_shr, xor_mod}
 use Rattle.laws.specs.Xor.{KeepsXor}
 use Rattle.laws.proofs.Linear.{swap4, keeps_mul}
 use Rattle.rules.specs.Crc.{crc_bits, crc_byte, crc_from}
-use Rattle.rules.proofs.Crc.{bits_lt, bits_xor, byte_lt}
+use Rattle.rules.proofs.Crc.{bits_lt, bits_xor, byte_lt, from_append}
+use Rattle.std.proofs.lemmas.List.{at_drop_more}
+use Rattle.std.specs.List.{fold, concat}
+use Rattle.std.specs.Simd.{first_chunks}
+use Rattle.std.specs.Int.{w64, from_be_bytes}
 use Rattle.crc.specs.Wide.{value, wide}
 
 -- ---- what a number leaves stays within 16 bits and keeps sums
@@ -60,32 +64,47 @@ wide_more k v b h =
 
 -- ---- the bytes of a list
 
--- a register stays where no byte is left
-pub none_left : (c : ℕ) (s : List ℕ) (k : ℕ) → length s ≤ k → c ≡ crc_from c (drop k s)
-none_left c s k h = sym (ap (crc_from c) (drop_of_length-le s h))
+-- one byte after another is a fold
+pub by_fold : (c : ℕ) (s : List ℕ) → crc_from c s ≡ fold crc_byte c s
+by_fold c [] = refl
+by_fold c (b ∷ s) = by_fold (crc_byte c b) s
 
--- each element is a byte
-abbrev pub Bytes : List ℕ → Type 0
-Bytes s = (j : ℕ) → get_or s j 0 < 2 ^ 8
+-- the next of the eights that are left
+pub next_block : (c : ℕ) (blocks : List (List ℕ)) (i : ℕ) → i < length blocks
+    → crc_from c (concat (drop i blocks)) ≡ crc_from (crc_from c (get_or blocks i [])) (concat (drop (i + 1) blocks))
+next_block c blocks i h =
+    at_drop_more (λ (bs : List (List ℕ)). crc_from c (concat bs)) blocks i [] h ∙ from_append c (get_or blocks i []) (concat (drop (i + 1) blocks))
 
-module _ (s : List ℕ) (bytes : Bytes s) where
-  -- the next k bytes, as a number that is added to the moved register
-  block : (k c i : ℕ) → c < 2 ^ 16 → i + k ≤ length s
-      → crc_from c (drop i s) ≡ crc_from (bit_xor (crc_bits (8 * k) c) (wide k (value s i k))) (drop (i + k) s)
+-- eights joined are what was cut
+pub eights_joined : (k : ℕ) (s : List ℕ) → k * 8 ≡ length s → concat (first_chunks 8 k s) ≡ s
+eights_joined zero [] h = refl
+eights_joined zero (b ∷ s) h = absurd (omega arith)
+eights_joined (suc k) s h =
+    let l : k * 8 ≡ length (drop 8 s) = simp length-drop (omega arith) in
+    ap (λ (t : List ℕ). take 8 s ++ t) (eights_joined k (drop 8 s) l) ∙ take-append-drop 8 s
+
+module _ (s : List ℕ) (bytes : (j : ℕ) → get_or s j 0 < 2 ^ 8) where
+  -- the first k bytes, as a number that is added to the moved register
+  block : (k c : ℕ) → c < 2 ^ 16 → k ≤ length s → crc_from c (take k s) ≡ bit_xor (crc_bits (8 * k) c) (wide k (value s k))
   unfolding crc_bits wide
-  block zero c i hc h = ap₂ crc_from (sym (xor_zero_r c)) (ap (λ (n : ℕ). drop n s) (sym (add-zero i)))
-  block (suc k) c i hc h =
-      let l : i + k < length s = omega arith in
-      let e : suc (i + k) ≡ i + suc k = omega arith in
-      let b : ℕ = get_or s (i + k) 0 in
-      let v : ℕ = value s i k in
-      block k c i hc (omega arith) ∙ ap (crc_from (bit_xor (crc_bits (8 * k) c) (wide k v))) (drop-cons s (i + k) 0 l)
-      ∙ ap₂ crc_from
-      (byte_more (crc_bits (8 * k) c) (wide k v) b (bits_lt (8 * k) c hc) (wide_lt k v) (bytes (i + k))
-      ∙ ap₂ bit_xor (bits_more k c) (wide_more k v b (bytes (i + k))))
-      (ap (λ (n : ℕ). drop n s) e)
+  block zero c hc h = sym (xor_zero_r c)
+  block (suc k) c hc h =
+      let b : ℕ = get_or s k 0 in
+      let v : ℕ = value s k in
+      let l : k < length s = omega arith in
+      ap (crc_from c) (take-suc s k 0 l) ∙ from_append c (take k s) (b ∷ [])
+      ∙ ap (λ (n : ℕ). crc_byte n b) (block k c hc (omega arith))
+      ∙ byte_more (crc_bits (8 * k) c) (wide k v) b (bits_lt (8 * k) c hc) (wide_lt k v) (bytes k)
+      ∙ ap₂ bit_xor (bits_more k c) (wide_more k v b (bytes k))
 
-  -- a number x that stands for the register c moved by 8 k bits takes the next k bytes by one sum
-  pub onward : (k c i x v : ℕ) → c < 2 ^ 16 → i + k ≤ length s → wide 8 x ≡ crc_bits (8 * k) c → wide 8 v ≡ wide k (value s i k)
-      → crc_from (wide 8 (bit_xor x v)) (drop (i + k) s) ≡ crc_from c (drop i s)
-  onward k c i x v hc h p q = ap (λ (n : ℕ). crc_from n (drop (i + k) s)) (keeps_wide 8 x v ∙ ap₂ bit_xor p q) ∙ sym (block k c i hc h)
+  -- a number x that stands for the register c moved by 8 k bits takes the k bytes by one sum
+  pub onward : (k c x v : ℕ) → c < 2 ^ 16 → length s ≡ k → wide 8 x ≡ crc_bits (8 * k) c → wide 8 v ≡ wide k (value s k) → wide 8 (bit_xor x v) ≡ crc_from c s
+  onward k c x v hc l p q =
+      let a : length s ≤ k = omega arith in
+      keeps_wide 8 x v ∙ ap₂ bit_xor p q ∙ sym (block k c hc (omega arith)) ∙ ap (crc_from c) (take_all k s a)
+
+  -- eight bytes, as `from_be_bytes` reads them
+  pub eight_onward : (c x v : ℕ) → c < 2 ^ 16 → length s ≡ 8 → wide 8 x ≡ crc_bits 64 c → v ≡ from_be_bytes w64 s → wide 8 (bit_xor x v) ≡ crc_from c s
+  eight_onward c x v hc l p e =
+      let q : v ≡ value s 8 = omega (arith, e) in
+      onward 8 c x v hc l p (ap (wide 8) q)

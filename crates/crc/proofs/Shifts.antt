@@ -4,7 +4,8 @@ use mathlib.Core.List.{List, [], ◌∷◌}
 use Prim.Native.Nat.{ℕ, ◌*◌, ◌/◌, ◌%◌, ◌^◌, ◌<◌}
 use native.Mathlib.Nat.{mod-eq_of_lt}
 use lib.Dec.{T, eqb}
-use lib.Bits.{bit_xor}
+use native.Mathlib.Omega.{arith}
+use lib.Bits.{bit_xor, xor_lt}
 use Rattle.laws.specs.Tables.{all_below}
 use Rattle.laws.specs.Xor.{KeepsXor}
 use Rattle.laws.proofs.Linear.{same, keeps_id, keeps_sum, keeps_after, keeps_shr, keeps_shl, keeps_mod}
@@ -94,6 +95,12 @@ seven_leaves = agree (leave 8) (leave 7) 56 tt
 abbrev stepped : Kept
 stepped = sum (shl 16 8) (chain (sum (shr 8) (shr 12)) (with (shl 16) (12 ∷ 5 ∷ [])))
 
-pub byte_moves : (y : ℕ) → y < 2 ^ 16 → stepped.of y ≡ crc_bits 8 y
+byte_moves : (y : ℕ) → y < 2 ^ 16 → stepped.of y ≡ crc_bits 8 y
 unfolding crc_bits crc_bit
 byte_moves y h = agree stepped (move 8) 16 tt y h ∙ ap (crc_bits 8) (mod-eq_of_lt h)
+
+pub byte_steps : (c b : ℕ) → c < 2 ^ 16 → b < 2 ^ 8 → stepped.of (bit_xor c (b * 2 ^ 8 % 2 ^ 16)) ≡ crc_byte c b
+unfolding crc_byte
+byte_steps c b h k =
+    let e : b * 2 ^ 8 % 2 ^ 16 ≡ b * 2 ^ 8 = omega arith in
+    byte_moves (bit_xor c (b * 2 ^ 8 % 2 ^ 16)) (xor_lt 16 c (b * 2 ^ 8 % 2 ^ 16) h (omega arith)) ∙ ap (λ (n : ℕ). crc_bits 8 (bit_xor c n)) e

@@ -2,10 +2,10 @@
 use Rattle.std.specs.Prelude.{ℕ, zero, suc, ◌+◌, ◌*◌, ◌/◌, ◌%◌, ◌^◌, List, get_or}
 use Rattle.rules.specs.Crc.{crc_byte}
 
--- the number that the k bytes of s from i on write
-abbrev pub value : List ℕ → ℕ → ℕ → ℕ
-value s i zero = 0
-value s i (suc k) = value s i k * 2 ^ 8 + get_or s (i + k) 0
+-- the number that the first k bytes of s write
+abbrev pub value : List ℕ → ℕ → ℕ
+value s zero = 0
+value s (suc k) = value s k * 2 ^ 8 + get_or s k 0
 
 -- the register after the k bytes that the number x writes, from the register 0
 unfoldable pub wide : ℕ → ℕ → ℕ

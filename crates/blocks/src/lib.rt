@@ -25,8 +25,8 @@ fn ends<const N: usize>(src: &[u8], dst: &mut [u8])
     put::<N>(&src[last..], &mut dst[last..]);
 }
 
-// Copies all of src. `copy_from_slice` alone takes 32,609 instructions to send 1,024 bytes at MTU 8 and 39,377 to receive them; with the blocks they are 30,983 and
-// 35,301. Out of line: in line it keeps its callers from being put in line, and the send takes 36,821.
+// Copies all of src. `copy_from_slice` alone takes 32,609 instructions to send 1,024 bytes at MTU 8 and 39,377 to receive them; with the blocks they are 30,983
+// and 35,301. Out of line: in line it keeps its callers from being put in line, and the send takes 36,821.
 #[inline(never)]
 fn whole(src: &[u8], dst: &mut [u8])
     requires { length src.now ≤ length dst.old }

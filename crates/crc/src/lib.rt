@@ -45,8 +45,8 @@ fn rest(x: u64, top: u64) -> u16
     ((q ^ (q << 5) ^ (q << 12)) % 65536) as u16
 }
 
-// The register and the seven bytes behind it, as one number that leaves the same, and its upper half. That is told beside it, not shifted out of it: the compiler
-// then loads four bytes at once.
+// The register and the seven bytes behind it, as one number that leaves the same, and its upper half. That is told beside it, not shifted out of it: the
+// compiler then loads four bytes at once.
 fn first_seven(crc: u16, bytes: [u8; 7]) -> (u64, u64)
     ensures { (wide 8 result.0 ≡ crc_from crc bytes) × (result.1 ≡ result.0 / 2 ^ 32) }
 {

@@ -6,119 +6,79 @@ ghost use Rattle.laws.specs.Laid.{laid};
 ghost use Rattle.rules.specs.Limits.{greatest_frame};
 ghost use Rattle.rules.specs.Frames.{frame};
 ghost use Rattle.rules.specs.Transfer.{tailed};
-ghost use Rattle.queue.specs.Place.{joined, place_length, head_length, head_of, frame_of, held_of};
+ghost use Rattle.queue.specs.Place.{head_length, head_of, frame_of, held_of};
 
-use crate::{Held, PLACE, Place};
+use crate::{Held, Place};
 use rules::data::FRAME_CAPACITY;
 use rules::frame::Marks;
 
 // The number of bytes in front of those of the frame.
 const HEAD: usize = 12;
 
-// The number of four bytes, the low one first.
-fn join(a: u8, b: u8, c: u8, d: u8) -> u32
-    ensures { result ≡ joined a b c d }
-{
-    (a as u32) + (b as u32) * 256 + (c as u32) * 65536 + (d as u32) * 16777216
-}
-
 // The ID of a place's frame.
-pub(crate) fn id_at(places: &[Place], p: usize) -> u32
-    requires { p < length places.now }
-    ensures { result ≡ (frame_of (get_or places.now p [])).id }
+pub(crate) fn id_of(place: &Place) -> u32
+    ensures { result ≡ (frame_of place.now).id }
 {
-    join(places[p][0], places[p][1], places[p][2], places[p][3])
+    u32::from_le_bytes([place[0], place[1], place[2], place[3]])
 }
 
-fn mark_of(loopback: bool) -> u8
-    ensures { result ≡ cond loopback 1 0 }
+// The stamp of a place's frame.
+fn stamp_of(place: &Place) -> u32
+    ensures { result ≡ (frame_of place.now).stamp }
 {
-    if loopback { 1 } else { 0 }
+    u32::from_le_bytes([place[4], place[5], place[6], place[7]])
 }
 
 // Writes all but the frame's bytes.
-fn write_head(place: &mut [u8], marks: Marks, count: u8)
-    requires { length place.old ≡ place_length }
+fn write_head(place: &mut Place, marks: Marks, count: u8)
     ensures { place.new ≡ head_of marks count ++ drop head_length place.old }
 {
-    let id = marks.id;
-    let stamp = marks.stamp;
-    let loopback = marks.loopback;
-    let mark = mark_of(loopback);
-    place[0] = (id % 256) as u8;
-    place[1] = (id / 256 % 256) as u8;
-    place[2] = (id / 65536 % 256) as u8;
-    place[3] = (id / 16777216) as u8;
-    place[4] = (stamp % 256) as u8;
-    place[5] = (stamp / 256 % 256) as u8;
-    place[6] = (stamp / 65536 % 256) as u8;
-    place[7] = (stamp / 16777216) as u8;
-    place[8] = mark;
+    place[..4].copy_from_slice(&marks.id.to_le_bytes());
+    place[4..8].copy_from_slice(&marks.stamp.to_le_bytes());
+    place[8] = u8::from(marks.loopback);
     place[9] = count;
     place[10] = 0;
     place[11] = 0;
 }
 
 // Writes the head of a frame with so many bytes, and the first of them.
-fn begin(place: &mut [u8], marks: Marks, count: u8, bytes: &[u8])
-    requires { length place.old ≡ place_length }
+fn begin(place: &mut Place, marks: Marks, count: u8, bytes: &[u8])
     ensures { place.new ≡ head_of marks count ++ laid bytes.now (drop head_length place.old) }
 {
     write_head(place, marks, count);
-    blocks::copy(bytes, &mut place[HEAD..PLACE]);
+    blocks::copy(bytes, &mut place[HEAD..]);
 }
 
 // Writes the frame into the place.
-pub(crate) fn fill(place: &mut [u8], marks: Marks, bytes: &[u8])
-    requires { (length place.old ≡ place_length) × (length bytes.now ≤ greatest_frame) }
+pub(crate) fn fill(place: &mut Place, marks: Marks, bytes: &[u8])
+    requires { length bytes.now ≤ greatest_frame }
     ensures { frame_of place.new ≡ frame marks bytes.now }
 {
-    let count = bytes.len() as u8;
-    begin(place, marks, count, bytes);
+    begin(place, marks, bytes.len() as u8, bytes);
 }
 
 // Writes the frame of a part and its tail byte into the place.
-pub(crate) fn fill_tailed(place: &mut [u8], marks: Marks, part: &[u8], tail: u8)
-    requires { (length place.old ≡ place_length) × (length part.now < greatest_frame) }
+pub(crate) fn fill_tailed(place: &mut Place, marks: Marks, part: &[u8], tail: u8)
+    requires { length part.now < greatest_frame }
     ensures { frame_of place.new ≡ frame marks (tailed part.now tail) }
 {
     let n = part.len();
-    let count = (n + 1) as u8;
-    begin(place, marks, count, part);
-    let end = HEAD + n;
-    place[end] = tail;
+    begin(place, marks, (n + 1) as u8, part);
+    place[HEAD + n] = tail;
 }
 
-// No place says more bytes than a frame can have.
-fn within(stated: u8) -> usize
-    ensures { result ≡ min stated greatest_frame }
-{
-    let length = stated as usize;
-    if length < FRAME_CAPACITY {
-        return length;
-    }
-    FRAME_CAPACITY
-}
-
-// The frame of a place. Behind its bytes are zeros.
-pub(crate) fn held(place: &[u8]) -> Held
-    requires { length place.now ≡ place_length }
+// The frame of a place. Behind its bytes are zeros. No place says more bytes than a frame can have. The marks are read before the bytes are copied: that is faster.
+pub(crate) fn held(place: &Place) -> Held
     ensures { result ≡ held_of (some (frame_of place.now)) }
 {
-    let id = join(place[0], place[1], place[2], place[3]);
-    let stamp = join(place[4], place[5], place[6], place[7]);
-    let mark = place[8];
-    let stated = place[9];
-    let length = within(stated);
-    let end = HEAD + length;
-    let mut bytes = [0u8; FRAME_CAPACITY];
-    blocks::copy(&place[HEAD..end], &mut bytes);
-    let loopback = mark != 0;
     let marks = Marks {
-        stamp,
-        id,
-        loopback,
+        stamp: stamp_of(place),
+        id: id_of(place),
+        loopback: place[8] != 0,
     };
+    let length = usize::from(place[9]).min(FRAME_CAPACITY);
+    let mut bytes = [0u8; FRAME_CAPACITY];
+    blocks::copy(&place[HEAD..HEAD + length], &mut bytes);
     Held {
         found: true,
         marks,

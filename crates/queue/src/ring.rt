@@ -39,7 +39,7 @@ pub(crate) fn make_room(places: &mut [Place], head: usize, cap: usize, n: usize,
     let mut j = n;
     while 0 < j {
         let q = one_back(p, cap);
-        let other = place::id_at(places, q);
+        let other = place::id_of(&places[q]);
         if other <= id {
             return j;
         }
@@ -60,7 +60,7 @@ pub(crate) fn draw_up(places: &mut [Place], head: usize, cap: usize, n: usize, i
     let mut j = 0;
     while j < n {
         let q = slot(p, cap, 1);
-        let other = place::id_at(places, q);
+        let other = place::id_of(&places[q]);
         if id <= other {
             return j;
         }

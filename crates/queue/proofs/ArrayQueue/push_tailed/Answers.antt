@@ -1,5 +1,5 @@
 -- The frame has one byte more than its part. Where the answer is that it is placed, the queue is sound and not full, and the frame is put by its rule.
-use Rattle.std.proofs.Common.{[], ◌∷◌, rules, sym, arith, length-append}
+use Rattle.std.proofs.Common.{[], ◌∷◌, sym, arith, length-append}
 use Rattle.rules.specs.Frames.{frame}
 use Rattle.rules.specs.Transfer.{tailed}
 use Rattle.rules.specs.Queue.{pushed}
@@ -17,7 +17,7 @@ fill_tailed-requires c =
     let f = frame c.args.marks (tailed c.args.part.now c.args.tail) in
     let more = length-append c.args.part.now (c.args.tail ∷ []) in
     let fits = placed_fits (free c.args.self c.args.places.now) f (sym (c.in-Placed.ensures f.bytes more)) in
-    (search rules, omega arith)
+    omega arith
 
 pub grown-queue-requires : goal.grown-queue-requires
 grown-queue-requires c =

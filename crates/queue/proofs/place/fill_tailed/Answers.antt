@@ -6,4 +6,4 @@ use Rattle.queue.proofs.place.fill_tailed.Goals as goal
 pub returns : goal.returns
 returns c =
     let l : length (drop 12 c.args.place.now) ≡ 64 = simp length-drop (omega arith) in
-    filled_tailed c.args.marks c.args.part.now (drop 12 c.args.place.now) _ c.args.tail l c.requires.1 c.begin.ensures
+    filled_tailed c.args.marks c.args.part.now (drop 12 c.args.place.now) _ c.args.tail l c.requires c.begin.ensures

@@ -16,13 +16,13 @@ loop-j-init c = record {
 pub returns-then-id-other : goal.returns-then-id-other
 returns-then-id-other c =
     let e = c.slot-q.ensures.0 ∙ to_behind c.args.head c.args.cap (c.loop-j.j + 1) c.loop-j.j c.loop-j.p (omega arith) (omega arith) (omega arith) c.loop-j.invariant.at_p in
-    let at_most : c.args.id ≤ (frame_of (get_or c.loop-j.places c.slot-q.result [])).id = omega (arith, c.id_at-other.ensures) in
+    let at_most : c.args.id ≤ (frame_of (get_or c.loop-j.places c.slot-q.result [])).id = omega (arith, c.id_of-other.ensures) in
     below_found _ _ _ _ (omega arith) (omega arith) _ _ _ _ _ (omega arith) c.loop-j-test.true e c.loop-j.invariant.kept at_most
 
 pub loop-j-preserved : goal.loop-j-preserved
 loop-j-preserved c =
     let e = c.slot-q.ensures.0 ∙ to_behind c.args.head c.args.cap (c.loop-j.j + 1) c.loop-j.j c.loop-j.p (omega arith) (omega arith) (omega arith) c.loop-j.invariant.at_p in
-    let past : (frame_of (get_or c.loop-j.places c.slot-q.result [])).id < c.args.id = omega (arith, c.id_at-other.ensures) in
+    let past : (frame_of (get_or c.loop-j.places c.slot-q.result [])).id < c.args.id = omega (arith, c.id_of-other.ensures) in
     record {
       kept = below_more _ _ _ _ (omega arith) (omega arith) _ _ _ _ _ _ (omega arith) c.loop-j-test.true e c.loop-j.invariant.at_p (omega arith) c.loop-j.invariant.kept past;
       at_p = e;

@@ -9,13 +9,13 @@ use Rattle.queue.proofs.ring.make_room.Goals as goal
 pub returns-then-other-id : goal.returns-then-other-id
 returns-then-other-id c =
     let e = c.one_back-q.ensures.0 ∙ to_before c.args.head c.args.cap (c.loop-j.j - 1) c.loop-j.j c.loop-j.p (omega arith) (omega arith) (omega arith) c.loop-j.invariant.at_p in
-    let at_most : (frame_of (get_or c.loop-j.places c.one_back-q.result [])).id ≤ c.args.id = omega (arith, c.id_at-other.ensures) in
+    let at_most : (frame_of (get_or c.loop-j.places c.one_back-q.result [])).id ≤ c.args.id = omega (arith, c.id_of-other.ensures) in
     above_found _ _ _ _ (omega arith) (omega arith) _ _ _ _ _ (omega arith) e c.loop-j.invariant.kept at_most
 
 pub loop-j-preserved : goal.loop-j-preserved
 loop-j-preserved c =
     let e = c.one_back-q.ensures.0 ∙ to_before c.args.head c.args.cap (c.loop-j.j - 1) c.loop-j.j c.loop-j.p (omega arith) (omega arith) (omega arith) c.loop-j.invariant.at_p in
-    let past : c.args.id < (frame_of (get_or c.loop-j.places c.one_back-q.result [])).id = omega (arith, c.id_at-other.ensures) in
+    let past : c.args.id < (frame_of (get_or c.loop-j.places c.one_back-q.result [])).id = omega (arith, c.id_of-other.ensures) in
     record {
       kept = above_more _ _ _ _ (omega arith) (omega arith) _ _ _ _ _ _ (omega arith) e c.loop-j.invariant.at_p (omega arith) c.loop-j.invariant.kept past;
       at_p = e;

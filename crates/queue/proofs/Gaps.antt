@@ -73,13 +73,6 @@ module _ (head cap n : ℕ) (before : List (List ℕ)) (hh : head < cap) (hn : n
             rw h (there l (at head cap l i) j (omega arith) hl ∙ ap (at head cap l) s ∙ g.high j (omega arith) hj)
 
   module _ (id : ℕ) where
-    pub above_none : Above head cap n before id before n
-    above_none =
-        record {
-          gap = record { as_many = refl; inside = omega arith; low = λ k h. refl; high = λ k h₁ h₂. absurd (omega arith) };
-          above = λ k h₁ h₂. absurd (omega arith);
-        }
-
     pub above_more :
         (i j q p : ℕ) (l : List (List ℕ)) → i + 1 ≡ j → q ≡ slot_of head cap i → p ≡ slot_of head cap j → cap ≤ length l → Above head cap n before id l j →
         id < (frame_of (get_or l q [])).id → Above head cap n before id (set l p (get_or l q [])) i
@@ -107,11 +100,11 @@ module _ (head cap n : ℕ) (before : List (List ℕ)) (hh : head < cap) (hn : n
             let t : i ≡ k = omega arith in
             rw (a.gap.low k (omega arith)) at (rw t at (rw eq at h))
 
-    pub above_all : (j : ℕ) (l : List (List ℕ)) → j ≤ 0 → Above head cap n before id l j → Opened pushed head cap n id before (at head cap before) l j
-    above_all j l hj a =
+    pub above_all : (l : List (List ℕ)) → Above head cap n before id l 0 → Opened pushed head cap n id before (at head cap before) l 0
+    above_all l a =
         record {
           gap = a.gap;
-          there = λ f w. pushed_at n j f (λ k. frame_of (at head cap before k)) a.gap.inside (λ k h₁ h₂. rw w (a.above k h₁ h₂)) (λ k s. absurd (omega arith));
+          there = λ f w. pushed_at n 0 f (λ k. frame_of (at head cap before k)) a.gap.inside (λ k h₁ h₂. rw w (a.above k h₁ h₂)) (λ k s. absurd (omega arith));
         }
 
     pub below_none : Below head cap n before id before 0
@@ -154,9 +147,9 @@ module _ (head cap n : ℕ) (before : List (List ℕ)) (hh : head < cap) (hn : n
         not_below : id ≤ (frame_of (behind head cap before j)).id
         not_below = rw (b.gap.high j (omega arith) hj) at (rw s at (rw eq at h))
 
-    pub below_all : (j : ℕ) (l : List (List ℕ)) → n ≤ j → Below head cap n before id l j → Opened returned head cap n id before (behind head cap before) l j
-    below_all j l hj b =
+    pub below_all : (l : List (List ℕ)) → Below head cap n before id l n → Opened returned head cap n id before (behind head cap before) l n
+    below_all l b =
         record {
           gap = b.gap;
-          there = λ f w. returned_at n j f (λ k. frame_of (behind head cap before k)) b.gap.inside (λ k v. rw w (b.below k v)) (λ v. absurd (omega arith));
+          there = λ f w. returned_at n n f (λ k. frame_of (behind head cap before k)) b.gap.inside (λ k v. rw w (b.below k v)) (λ v. absurd (omega arith));
         }

@@ -2,7 +2,7 @@
 use mathlib.Core.Path.{◌≡◌, refl, sym, ap, ◌∙◌}
 use mathlib.Core.Bool.{true, false, true≢false, false≢true}
 use mathlib.Core.List.{List, [], ◌∷◌}
-use mathlib.Core.Option.{none, some}
+use mathlib.Core.Option.{some}
 use Prim.Native.Nat.{ℕ, suc, ◌-◌, ◌<◌}
 use native.Mathlib.Omega.{arith}
 use borrow.Author.Tests.{ne_eqb}
@@ -16,7 +16,7 @@ use Rattle.queue.specs.Queue.{sound, frame_at, contents, capacity_is, Pops}
 use Rattle.queue.specs.declared.ArrayQueue.{ArrayQueue}
 use Rattle.queue.specs.declared.Held.{Held}
 use Rattle.queue.proofs.Slots.{slot_zero, slot_next, slot_one_below, tab_same}
-use Rattle.queue.proofs.State.{Sound, sound_of, contents_of, free_of, none_of, with_frames}
+use Rattle.queue.proofs.State.{Sound, sound_of, contents_of, free_of, with_frames}
 
 -- the state without its first frame
 abbrev next : ArrayQueue → ArrayQueue
@@ -57,10 +57,6 @@ module _ (q : ArrayQueue) (places : List (List ℕ)) (s : Sound q (length places
         capacity = capacity_is (next q) ∙ sym (capacity_is q);
         kept = rw split;
       })
-
--- where there is no frame, none is handed out
-pub at_none : (q : ArrayQueue) (places : List (List ℕ)) → eqb (length (contents q places)) 0 ≡ true → held_of none ≡ held_of (first (contents q places))
-at_none q places e = rw (none_of (contents q places) e)
 
 -- whether there is a frame, by what is handed out
 none_held : (fs : List Frame) → (held_of (first fs)).found ≡ false → fs ≡ []

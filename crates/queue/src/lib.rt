@@ -12,6 +12,7 @@ ghost use Rattle.queue.specs.Place.{held_of};
 ghost use Rattle.queue.specs.Ring.{one_back};
 ghost use Rattle.queue.specs.Queue.{sound, contents, free, capacity_of, made, grown, Opens, Places, Pops};
 
+use ring::Ring;
 use rules::data::{CAPACITY_MAX, CanId, FRAME_CAPACITY};
 use rules::frame::Marks;
 use rules::placing::Placing;
@@ -184,8 +185,10 @@ impl ArrayQueue {
         if !found {
             return Popped { queue: self, held };
         }
+        let head = self.head;
         let cap = self.capacity;
-        let next = ring::slot(self.head, cap, 1);
+        let ring = Ring { head, cap };
+        let next = ring.slot(1);
         let left = self.length - 1;
         Popped {
             queue: ArrayQueue {
@@ -209,8 +212,10 @@ impl ArrayQueue {
             },
             Placing::Placed => {
                 let id = marks.id;
+                let head = self.head;
                 let cap = self.capacity;
-                let front = ring::one_back(self.head, cap);
+                let ring = Ring { head, cap };
+                let front = ring.before(head);
                 let p = self.open_before(places, front, id);
                 place::fill(&mut places[p], marks, bytes);
                 let queue = self.grown(front);
@@ -275,8 +280,9 @@ impl ArrayQueue {
         let head = self.head;
         let cap = self.capacity;
         let n = self.length;
-        let j = ring::make_room(places, head, cap, n, id);
-        ring::slot(head, cap, j)
+        let ring = Ring { head, cap };
+        let j = ring.make_room(places, n, id);
+        ring.slot(j)
     }
 
     // Makes a place free in front of the frames whose ID is not below this one, in a ring that starts one place back, and returns its index.
@@ -286,8 +292,9 @@ impl ArrayQueue {
     {
         let cap = self.capacity;
         let n = self.length;
-        let j = ring::draw_up(places, head, cap, n, id);
-        ring::slot(head, cap, j)
+        let ring = Ring { head, cap };
+        let j = ring.draw_up(places, n, id);
+        ring.slot(j)
     }
 
     // The state with one more frame, in a ring that starts at head.

@@ -6,17 +6,21 @@ use Rattle.queue.proofs.Slots.{slot_in, slot_back}
 use Rattle.queue.proofs.ArrayQueue.open_before.Goals as goal
 
 -- the place in front of the head is in the ring
-pub draw_up-j-requires : goal.draw_up-j-requires
-draw_up-j-requires c =
+pub invariant_of-ring : goal.invariant_of-ring
+invariant_of-ring c =
     let q = c.args.self in
     let s = with_room _ _ c.requires.0 in
-    (slot_in q.head q.capacity (q.capacity - 1) c.args.head s.0.head (omega arith) c.requires.1, s.1, s.0.small, s.0.enough)
+    record { inside = slot_in q.head q.capacity (q.capacity - 1) c.args.head s.0.head (omega arith) c.requires.1; small = s.0.small }
+
+pub draw_up-j-requires : goal.draw_up-j-requires
+draw_up-j-requires c =
+    let s = with_room _ _ c.requires.0 in
+    (s.1, s.0.enough)
 
 pub slot-requires : goal.slot-requires
 slot-requires c =
-    let q = c.args.self in
     let s = with_room _ _ c.requires.0 in
-    (slot_in q.head q.capacity (q.capacity - 1) c.args.head s.0.head (omega arith) c.requires.1, omega arith, s.0.small)
+    omega arith
 
 pub returns : goal.returns
 returns c =

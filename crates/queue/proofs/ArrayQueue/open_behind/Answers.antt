@@ -4,15 +4,20 @@ use Rattle.queue.proofs.State.{with_room}
 use Rattle.queue.proofs.Putting.{opens}
 use Rattle.queue.proofs.ArrayQueue.open_behind.Goals as goal
 
+pub invariant_of-ring : goal.invariant_of-ring
+invariant_of-ring c =
+    let s = with_room _ _ c.requires in
+    record { inside = s.0.head; small = s.0.small }
+
 pub make_room-j-requires : goal.make_room-j-requires
 make_room-j-requires c =
     let s = with_room _ _ c.requires in
-    (s.0.head, s.1, s.0.small, s.0.enough)
+    (s.1, s.0.enough)
 
 pub slot-requires : goal.slot-requires
 slot-requires c =
     let s = with_room _ _ c.requires in
-    (s.0.head, omega arith, s.0.small)
+    omega arith
 
 pub returns : goal.returns
 returns c =

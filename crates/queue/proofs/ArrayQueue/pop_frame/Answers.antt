@@ -1,12 +1,11 @@
 -- The queue without its first frame starts one place on.
-use Rattle.std.proofs.Common.{arith}
 use Rattle.queue.proofs.Popping.{pops_first, found_queued}
 use Rattle.queue.proofs.ArrayQueue.pop_frame.Goals as goal
 
-pub slot-next-requires : goal.slot-next-requires
-slot-next-requires c =
+pub invariant_of-ring : goal.invariant_of-ring
+invariant_of-ring c =
     let s = (found_queued c.args.self c.args.places.now c.peek_frame-held.result c.peek_frame-held.ensures c.if-not-found.false).0 in
-    (omega arith, omega arith, omega arith)
+    record { inside = s.head; small = s.small }
 
 pub returns : goal.returns
 returns c =

@@ -4,8 +4,10 @@ use Rattle.rules.specs.Frames.{frame}
 use Rattle.queue.proofs.Putting.{placed_in}
 use Rattle.queue.proofs.ArrayQueue.return_frame.Goals as goal
 
-pub one_back-front-requires : goal.one_back-front-requires
-one_back-front-requires c = (placed_in c.args.self c.args.places.now (frame c.args.marks c.args.bytes.now) (c.in-Placed.ensures c.args.bytes.now refl)).0.head
+pub invariant_of-ring : goal.invariant_of-ring
+invariant_of-ring c =
+    let s = (placed_in c.args.self c.args.places.now (frame c.args.marks c.args.bytes.now) (c.in-Placed.ensures c.args.bytes.now refl)).0 in
+    record { inside = s.head; small = s.small }
 
 pub grown-queue-requires : goal.grown-queue-requires
 grown-queue-requires c =

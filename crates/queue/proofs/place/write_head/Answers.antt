@@ -4,9 +4,9 @@ use Rattle.std.specs.Int.{from_bool}
 use Rattle.queue.proofs.Bytes.{twelve}
 use Rattle.queue.proofs.place.write_head.Goals as goal
 
-told : (b : Bool) → from_bool b ≡ cond b 1 0
-told true = refl
-told false = refl
+marked : (b : Bool) → from_bool b ≡ cond b 1 0
+marked true = refl
+marked false = refl
 
 pub returns : goal.returns
 returns c =
@@ -14,4 +14,4 @@ returns c =
     let i : c.args.marks.id / 16777216 % 256 ≡ c.args.marks.id / 16777216 = omega arith in
     let s : c.args.marks.stamp / 16777216 % 256 ≡ c.args.marks.stamp / 16777216 = omega arith in
     rw (c.copy_from_slice.ensures.after, c.copy_from_slice-2.ensures.after, c.to_le_bytes.ensures, c.to_le_bytes-2.ensures, c.from.ensures, twelve p (omega arith))
-    (cc (i, s, told c.args.marks.loopback))
+    (cc (i, s, marked c.args.marks.loopback))

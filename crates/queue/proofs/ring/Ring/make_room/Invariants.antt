@@ -2,14 +2,11 @@
 use Rattle.std.proofs.Common.{◌≡◌, ◌<◌}
 use Rattle.queue.specs.Ring.{slot_of}
 use Rattle.queue.proofs.Gaps.{Above}
-use Rattle.queue.proofs.ring.make_room.Given as goal
+use Rattle.queue.proofs.ring.Ring.make_room.Given as goal
 
 abbrev pub invariant-loop-j : goal.invariant-loop-j
 invariant-loop-j l = record {
-  kept : Above l.head l.cap l.n l.fn.places l.id l.places l.j;
-  at_p : l.p ≡ slot_of l.head l.cap l.j;
-  inside : l.p < l.cap;
+  kept : Above l.self.head l.self.cap l.n l.fn.places l.id l.places l.j;
+  at_p : l.p ≡ slot_of l.self.head l.self.cap l.j;
+  inside : l.p < l.self.cap;
 }
-
-abbrev pub decreases-loop-j : goal.decreases-loop-j
-decreases-loop-j l = l.j

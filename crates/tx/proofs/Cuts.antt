@@ -1,7 +1,7 @@
 -- How a transfer is cut: padding and CRC stand behind the payload, so that a frame full of payload leaves the rest of both; and when one frame or two are left.
-use Rattle.std.proofs.Common.{◌≡◌, ℕ, zero, suc, ◌+◌, ◌-◌, ◌*◌, ◌<◌, ◌≤◌, Bool, true, false, not, List, [], ◌∷◌, ◌++◌, length, take, drop, refl, ap, ◌∙◌, ap₂, append_assoc, suc-mul, one-mul, zero-mul, arith, drop-drop}
+use Rattle.std.proofs.Common.{◌≡◌, ℕ, zero, suc, ◌+◌, ◌-◌, ◌*◌, ◌<◌, ◌≤◌, Bool, true, false, not, List, [], ◌∷◌, ◌++◌, length, take, drop, refl, ap, ◌∙◌, ap₂, append_assoc, suc-mul, one-mul, zero-mul, arith}
 use lib.Seq.{take-append-le, drop-append-le}
-use borrow.Author.Tests.{lt-leb}
+use borrow.Author.Tests.{lt-leb, le-leb}
 use Rattle.rules.specs.declared.data.Mtu.{Mtu}
 use Rattle.rules.specs.Limits.{room_of}
 use Rattle.rules.specs.Crc.{crc_start, crc_from, crc_bytes}
@@ -11,7 +11,7 @@ use Rattle.rules.specs.Transfer.{padded, with_crc, content, tailed, cut, frames_
 use Rattle.rules.proofs.Crc.{from_append}
 use Rattle.rules.proofs.Plan.{size_bounds, alone, several, needed, last_frame, padding_small}
 use Rattle.rules.proofs.Transfer.{carried_alone, carried_several}
-use Rattle.tx.specs.Fits.{Fits, Last, Several}
+use Rattle.tx.specs.Fits.{Fits, Last, Several, over}
 use Rattle.tx.proofs.Parts.{zeros}
 
 -- ---- a frame that is full of payload
@@ -20,11 +20,10 @@ use Rattle.tx.proofs.Parts.{zeros}
 pub crc_behind : (c n : ℕ) (ys : List ℕ) → with_crc c (padded n ys) ≡ ys ++ with_crc (crc_from c ys) (zeros n)
 crc_behind c n ys = append_assoc ys (zeros n) (crc_bytes (crc_from c (padded n ys))) ∙ ap (λ (x : ℕ). ys ++ (zeros n ++ crc_bytes x)) (from_append c ys (zeros n))
 
-pub cut_on : (m id : ℕ) (start toggle : Bool) (n at : ℕ) (ys zs : List ℕ) → m ≤ length (drop at ys) → at ≤ length ys
-    → cut m id start toggle (suc n) (drop at (ys ++ zs)) ≡ tailed (take m (drop at ys)) (tail_byte start false toggle id) ∷ cut m id false (not toggle) n (drop (at + m) (ys ++ zs))
-cut_on m id start toggle n at ys zs h l =
-    let a : take m (drop at (ys ++ zs)) ≡ take m (drop at ys) = ap (take m) (drop-append-le at ys zs l) ∙ take-append-le m (drop at ys) zs h in
-    ap₂ (λ (x y : List ℕ). tailed x (tail_byte start false toggle id) ∷ cut m id false (not toggle) n y) a (drop-drop m at (ys ++ zs))
+pub cut_on : (m id : ℕ) (start toggle : Bool) (n : ℕ) (ys zs : List ℕ) → m ≤ length ys
+    → cut m id start toggle (suc n) (ys ++ zs) ≡ tailed (take m ys) (tail_byte start false toggle id) ∷ cut m id false (not toggle) n (drop m ys ++ zs)
+cut_on m id start toggle n ys zs h =
+    ap₂ (λ (x y : List ℕ). tailed x (tail_byte start false toggle id) ∷ cut m id false (not toggle) n y) (take-append-le m ys zs h) (drop-append-le m ys zs h)
 
 -- ---- how many frames are left
 
@@ -45,17 +44,11 @@ fits_last m zero p k f s h r = record { fits = f; few = omega arith; room = r }
 fits_last m (suc zero) p k f s h r = record { fits = f; few = omega arith; room = r }
 fits_last m (suc (suc n)) p k f s h r = absurd (omega (arith, f.more, suc-mul (suc n) m, suc-mul n m))
 
-pub last_one : (m n b : ℕ) → Last m n b → n ≡ 0 → b ≤ 63
-last_one m n b r e = omega (arith, r.fits.all, r.room, ap (λ (x : ℕ). x * m) e, zero-mul m)
-
-pub last_two : (m n b : ℕ) → Last m n b → (n ≡ 0 → ⊥) → (n ≡ 1) × (m < b) × (b ≤ m + m)
-last_two m n b r h =
-    let e : n ≡ 1 = omega (arith, r.few, nonzero n h) in
-    (e, omega (arith, r.fits.more, ap (λ (x : ℕ). x * m) e, one-mul m), omega (arith, r.fits.all, ap (λ (x : ℕ). x * m) e, one-mul m))
-  where
-    nonzero : (n : ℕ) → (n ≡ 0 → ⊥) → 0 < n
-    nonzero zero f = absurd (f refl)
-    nonzero (suc n) f = omega arith
+-- which of both it is, is told by whether they fit one frame
+pub over_is : (m n b : ℕ) → Last m n b → over m b ≡ n
+over_is m zero b r = rw (le-leb b m (omega (arith, r.fits.all, zero-mul m)))
+over_is m (suc zero) b r = rw (lt-leb b m (omega (arith, r.fits.more, one-mul m)))
+over_is m (suc (suc n)) b r = absurd (omega (arith, r.few))
 
 -- ---- a whole transfer
 

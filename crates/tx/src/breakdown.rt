@@ -3,15 +3,15 @@ ghost use Rattle.std.specs.Prelude.{◌≡◌, ◌+◌, ◌≤◌, ◌++◌, len
 ghost use Rattle.rules.specs.Transfer.{with_crc};
 
 // What is left of a transfer of several frames, laid over lent zeros: the last bytes of its payload, padding and CRC; crc is the register of the whole payload.
-pub(crate) fn close(rest: &mut [u8], crc: u16, padding: usize, part: &[u8])
+pub(crate) fn close(rest: &mut [u8; 128], crc: u16, padding: usize, part: &[u8])
     requires { (rest.old ≡ replicate 128 0) × (length part.now ≤ 64) × (padding ≤ 62) }
     ensures { take (length part.now + padding + 2) rest.new ≡ part.now ++ with_crc crc (replicate padding 0) }
 {
     let n = part.len();
     let high = n + padding;
-    let low = high + 1;
     blocks::copy(part, rest);
     let crc = crc::digest_bytes(crc, &rest[n..high]);
-    rest[high] = (crc / 256) as u8;
-    rest[low] = (crc % 256) as u8;
+    let [first, second] = crc.to_be_bytes();
+    rest[high] = first;
+    rest[high + 1] = second;
 }

@@ -16,6 +16,8 @@ returns c =
     let h : n + 2 ≤ 128 - length p = omega arith in
     let r = c.copy.ensures.copied ∙ ap (laid p) c.requires.0 ∙ laid_zeros p 128 k in
     let e : x ≡ crc_from a.crc (zeros n) = c.digest_bytes-crc.ensures ∙ ap (λ (y : List ℕ). crc_from a.crc (take (length p + n - length p) (drop (length p) y))) r ∙ ap (crc_from a.crc) (padding_part p n (128 - length p) l) in
-    ap (λ (y : List ℕ). take (length p + n + 2) (set (set y (length p + n) (x / 256)) (length p + n + 1) (x % 256))) r
+    let high : x / 256 % 256 ≡ x / 256 = omega arith in
+    rw (c.to_be_bytes.ensures, high)
+    (ap (λ (y : List ℕ). take (length p + n + 2) (set (set y (length p + n) (x / 256)) (length p + n + 1) (x % 256))) r
     ∙ two_set p n (128 - length p) (x / 256) (x % 256) h
-    ∙ ap (λ (y : ℕ). p ++ (zeros n ++ crc_bytes y)) e
+    ∙ ap (λ (y : ℕ). p ++ (zeros n ++ crc_bytes y)) e)

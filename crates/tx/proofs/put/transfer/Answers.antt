@@ -1,8 +1,8 @@
 -- A payload that fits one frame goes alone, a longer one in several, as the published rule has it.
-use Rattle.std.proofs.Common.{◌≡◌, ◌-◌, ◌<◌, ◌≤◌, length, ap, arith}
+use Rattle.std.proofs.Common.{◌<◌, ◌≤◌, length, ap, arith}
 use Rattle.rules.specs.declared.stats.FrameStats.{FrameStats}
 use Rattle.rules.specs.Limits.{room_of}
-use Rattle.rules.proofs.Plan.{alone}
+use Rattle.rules.proofs.Plan.{alone, size_bounds}
 use Rattle.tx.proofs.Cuts.{frames_alone, frames_several, alone_fits, several_fits}
 use Rattle.tx.proofs.put.transfer.Goals as goal
 
@@ -13,10 +13,10 @@ alone-requires c =
     let h : n ≤ room_of u = omega arith in
     let pad = ap (λ (x : FrameStats). x.last_frame_padding) c.requires.0 in
     let many = ap (λ (x : FrameStats). x.frames) c.requires.0 in
-    (omega (arith, alone_fits u n h), c.requires.1, omega (arith, c.requires.2, alone n u h))
+    (omega (arith, alone_fits u n h), omega (arith, c.requires.2, alone n u h))
 
-pub returns-then-payload-room : goal.returns-then-payload-room
-returns-then-payload-room c =
+pub returns-then-payload-as_bytes : goal.returns-then-payload-as_bytes
+returns-then-payload-as_bytes c =
     let u = c.args.outgoing.mtu in
     let p = c.args.payload.now in
     let h : length p ≤ room_of u = omega arith in
@@ -27,16 +27,14 @@ pub several-requires : goal.several-requires
 several-requires c =
     let u = c.args.outgoing.mtu in
     let n = length c.args.payload.now in
-    let h : room_of u < n = omega arith in
-    let e : c.as_bytes-room.result - 1 ≡ room_of u = omega arith in
-    (rw (e, c.requires.0) (several_fits u n h), c.requires.1, c.requires.2)
+    let h : room_of u < n = omega (arith, size_bounds u) in
+    (rw c.requires.0 (several_fits u n h), c.requires.2)
 
 pub returns : goal.returns
 returns c =
     let u = c.args.outgoing.mtu in
     let p = c.args.payload.now in
-    let h : room_of u < length p = omega arith in
-    let e : c.as_bytes-room.result - 1 ≡ room_of u = omega arith in
+    let h : room_of u < length p = omega (arith, size_bounds u) in
     let pad = ap (λ (x : FrameStats). x.last_frame_padding) c.requires.0 in
     let many = ap (λ (x : FrameStats). x.frames) c.requires.0 in
-    rw (frames_several u c.args.id.0 p h, ← pad, ← many, ← e) c.several.ensures
+    rw (frames_several u c.args.id.0 p h, ← pad, ← many) c.several.ensures

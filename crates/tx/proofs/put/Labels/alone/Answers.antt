@@ -2,7 +2,7 @@
 use Rattle.std.proofs.Common.{◌≡◌, ◌+◌, ◌-◌, ◌≤◌, length, take, ap, ◌∙◌, arith}
 use Rattle.rules.specs.Transfer.{padded}
 use Rattle.tx.proofs.Parts.{laid_zeros, padded_part}
-use Rattle.tx.proofs.put.alone.Goals as goal
+use Rattle.tx.proofs.put.Labels.alone.Goals as goal
 
 pub returns : goal.returns
 returns c =

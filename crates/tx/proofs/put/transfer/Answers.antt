@@ -1,6 +1,5 @@
 -- A payload that fits one frame goes alone, a longer one in several, as the published rule has it.
-use Rattle.std.proofs.Common.{◌<◌, ◌≤◌, length, ap, arith}
-use Rattle.rules.specs.declared.stats.FrameStats.{FrameStats}
+use Rattle.std.proofs.Common.{◌<◌, ◌≤◌, length, arith}
 use Rattle.rules.specs.Limits.{room_of}
 use Rattle.rules.proofs.Plan.{alone, size_bounds}
 use Rattle.tx.proofs.Cuts.{frames_alone, frames_several, alone_fits, several_fits}
@@ -11,17 +10,12 @@ alone-requires c =
     let u = c.args.outgoing.mtu in
     let n = length c.args.payload.now in
     let h : n ≤ room_of u = omega arith in
-    let pad = ap (λ (x : FrameStats). x.last_frame_padding) c.requires.0 in
-    let many = ap (λ (x : FrameStats). x.frames) c.requires.0 in
-    (omega (arith, alone_fits u n h), omega (arith, c.requires.2, alone n u h))
+    (rw c.requires.0 (alone_fits u n h), omega (arith, rw c.requires.0 at c.requires.2, alone n u h))
 
 pub returns-then-payload-as_bytes : goal.returns-then-payload-as_bytes
 returns-then-payload-as_bytes c =
-    let u = c.args.outgoing.mtu in
-    let p = c.args.payload.now in
-    let h : length p ≤ room_of u = omega arith in
-    let pad = ap (λ (x : FrameStats). x.last_frame_padding) c.requires.0 in
-    rw (frames_alone u c.args.id.0 p h, ← pad) c.alone.ensures
+    let h : length c.args.payload.now ≤ room_of c.args.outgoing.mtu = omega arith in
+    rw (frames_alone c.args.outgoing.mtu c.args.id.0 c.args.payload.now h) (rw c.requires.0 at c.alone.ensures)
 
 pub several-requires : goal.several-requires
 several-requires c =
@@ -33,8 +27,5 @@ several-requires c =
 pub returns : goal.returns
 returns c =
     let u = c.args.outgoing.mtu in
-    let p = c.args.payload.now in
-    let h : room_of u < length p = omega (arith, size_bounds u) in
-    let pad = ap (λ (x : FrameStats). x.last_frame_padding) c.requires.0 in
-    let many = ap (λ (x : FrameStats). x.frames) c.requires.0 in
-    rw (frames_several u c.args.id.0 p h, ← pad, ← many) c.several.ensures
+    let h : room_of u < length c.args.payload.now = omega (arith, size_bounds u) in
+    rw (frames_several u c.args.id.0 c.args.payload.now h) (rw c.requires.0 at c.several.ensures)

@@ -35,6 +35,7 @@ fn write_head(place: &mut Place, marks: Marks, count: u8)
 {
     place[..4].copy_from_slice(&marks.id.to_le_bytes());
     place[4..8].copy_from_slice(&marks.stamp.to_le_bytes());
+    // These four by single stores: for a third copy the compiler tests for an overlap, and `begin` then has 42 instructions in the place of 24.
     place[8] = u8::from(marks.loopback);
     place[9] = count;
     place[10] = 0;

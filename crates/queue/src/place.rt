@@ -68,7 +68,7 @@ pub(crate) fn fill_tailed(place: &mut Place, marks: Marks, part: &[u8], tail: u8
     place[HEAD + n] = tail;
 }
 
-// The frame of a place. Behind its bytes are zeros. No place says more bytes than a frame can have. The marks are read before the bytes are copied: that is faster.
+// The frame of a place; behind its bytes are zeros. No place says more bytes than a frame can have. The marks are read before the copy, which is faster.
 pub(crate) fn held(place: &Place) -> Held
     ensures { result ≡ held_of (some (frame_of place.now)) }
 {

@@ -1,8 +1,8 @@
 -- Lists of bytes in an array of zeros: a part laid at the front, zeros behind it, two bytes set behind those.
-use Rattle.std.proofs.Common.{◌≡◌, ℕ, zero, suc, ◌+◌, ◌-◌, ◌≤◌, List, [], ◌∷◌, ◌++◌, length, take, drop, set, replicate, sym, refl, ap, ◌∙◌, ap₂, append_assoc, arith, length-append, take_all, take_at, drop_at}
-use native.Mathlib.Nat.{sub-zero, zero-sub, suc-sub-suc}
+use Rattle.std.proofs.Common.{◌≡◌, ℕ, suc, ◌+◌, ◌-◌, ◌≤◌, List, [], ◌∷◌, ◌++◌, length, take, drop, set, replicate, sym, refl, ap, ◌∙◌, ap₂, append_assoc, arith, length-append, take_all, take_at, drop_at}
 use lib.ListN.{length-replicate, replicate-append-replicate}
-use lib.Seq.{set_at, append_snoc}
+use lib.Seq.{set_at, append_snoc, take-append-add}
+use Rattle.std.proofs.lemmas.List.{take-replicate, drop-replicate}
 use Rattle.laws.specs.Laid.{laid}
 use Rattle.rules.specs.Transfer.{padded}
 
@@ -14,16 +14,11 @@ laid_whole s d h = ap (λ (l : List ℕ). l ++ drop (length s) d) (take_all (len
 abbrev pub zeros : ℕ → List ℕ
 zeros n = replicate n 0
 
-drop_zeros : (n k : ℕ) → drop n (zeros k) ≡ zeros (k - n)
-drop_zeros zero k = rw (sub-zero k) refl
-drop_zeros (suc n) zero = rw (zero-sub (suc n)) refl
-drop_zeros (suc n) (suc k) = drop_zeros n k ∙ rw (suc-sub-suc k n) refl
-
 -- a list laid over zeros has zeros behind it
 pub laid_zeros : (s : List ℕ) (k : ℕ) → length s ≤ k → laid s (zeros k) ≡ padded (k - length s) s
 laid_zeros s k h =
     let l : length s ≤ length (zeros k) = omega (arith, length-replicate {A = ℕ} k 0) in
-    laid_whole s (zeros k) l ∙ ap (λ (z : List ℕ). s ++ z) (drop_zeros (length s) k)
+    laid_whole s (zeros k) l ∙ ap (λ (z : List ℕ). s ++ z) (drop-replicate (length s) k 0)
 
 length_padded : (s : List ℕ) (n : ℕ) → length (padded n s) ≡ length s + n
 length_padded s n = length-append s (replicate n 0) ∙ ap (λ (k : ℕ). length s + k) (length-replicate n 0)
@@ -36,7 +31,7 @@ more_zeros s n k h =
 
 -- a part with n zeros, cut from one with more
 pub padded_part : (s : List ℕ) (n k : ℕ) → n ≤ k → take (length s + n) (padded k s) ≡ padded n s
-padded_part s n k h = ap (take (length s + n)) (more_zeros s n k h) ∙ take_at (padded n s) (replicate (k - n) 0) (length s + n) (length_padded s n)
+padded_part s n k h = take-append-add s (zeros k) n ∙ ap (λ (z : List ℕ). s ++ z) (take-replicate n k 0 h)
 
 two : (p : List ℕ) (k n a b : ℕ) → length p ≡ n → set (set (p ++ replicate (suc (suc k)) 0) n a) (n + 1) b ≡ (p ++ (a ∷ b ∷ [])) ++ replicate k 0
 two p k n a b e =
@@ -48,7 +43,7 @@ two p k n a b e =
 pub padding_part : (s : List ℕ) (n k : ℕ) → n ≤ k → take (length s + n - length s) (drop (length s) (padded k s)) ≡ zeros n
 padding_part s n k h =
     let e : length s + n - length s ≡ n = omega arith in
-    ap₂ take e (drop_at s (zeros k) (length s) refl ∙ more_zeros [] n k h) ∙ take_at (zeros n) (zeros (k - n)) n (length-replicate n 0)
+    ap₂ take e (drop_at s (zeros k) (length s) refl) ∙ take-replicate n k 0 h
 
 -- two bytes set behind n of the zeros
 pub two_set : (s : List ℕ) (n k a b : ℕ) → n + 2 ≤ k → take (length s + n + 2) (set (set (padded k s) (length s + n) a) (length s + n + 1) b) ≡ s ++ (zeros n ++ (a ∷ b ∷ []))

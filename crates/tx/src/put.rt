@@ -41,7 +41,7 @@ pub(crate) fn transfer(
     labels.several(queue, places, id, outgoing, payload)
 }
 
-// The marks that each frame of a transfer bears. Queue and places stay beside them: in one struct lent to be changed, each promise would have to keep the marks too.
+// The marks that each frame of a transfer bears. Queue and places stay beside them: in one struct that is lent, each promise would have to keep the marks.
 #[derive(Clone, Copy)]
 struct Labels {
     marks: Marks,

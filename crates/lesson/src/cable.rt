@@ -1,79 +1,124 @@
-// The cable: what the detector's queue hands out arrives at the display, or does not, or not as it was.
-use crate::show;
+// The cable: what a sender's queue hands out arrives at the display, or does not, or not as it was.
+use crate::sender::Sender;
+use crate::show::{Answer, Frame};
 use queue::Held;
 use rules::frame::Marks;
+use rules::header::Header;
 use rules::receive::Received;
-use rx::subscription::Subscription;
+use rules::subscription::{Port, Settings};
+use rules::types::SubjectId;
+use rx::subscription::{Subscribed, Subscription};
 use slots::Slots;
 use std::io;
 
-// The display's store: 32 bytes for each of 128 sources.
-pub(crate) type Store = [u8; 4096];
-
-// What the display has answered so far.
-#[derive(Clone, Copy)]
-pub(crate) struct Tally {
+// The display, with its slots and its store, 32 bytes for each of 128 sources; what it has answered so far; and where all that is told.
+#[derive(Drop)]
+pub(crate) struct Desk<'a, P: Print> {
+    rt: &'a P,
+    display: Subscription,
+    slots: Slots,
+    store: [u8; 4096],
     pub delivered: u64,
     pub refused: u64,
 }
 
-fn count(tally: Tally, answer: Received) -> Tally {
-    match answer {
-        Received::Delivered(_) => Tally {
-            delivered: std::num::wrapping_add_u64(tally.delivered, 1),
-            refused: tally.refused,
+// Scans under subject 256, 32 bytes of each kept; an ID that comes again within two seconds is a repeat.
+fn subscribe(slots: &mut Slots) -> Subscription {
+    let port = Port::Message(SubjectId(256));
+    match Subscription::new(port, 2_000_000, 32, slots) {
+        Subscribed::Made(display) => display,
+        Subscribed::Refused(_) => Subscription {
+            settings: Settings {
+                port,
+                timeout: 0,
+                extent: 0,
+            },
         },
-        Received::Refused(_) => Tally {
-            delivered: tally.delivered,
-            refused: std::num::wrapping_add_u64(tally.refused, 1),
-        },
-        Received::Nothing => tally,
-        Received::NotOurs => tally,
     }
 }
 
-// A frame arrives at the display at a time of its own.
-pub(crate) fn arrive(
-    rt: &impl Print,
-    tally: Tally,
-    display: Subscription,
-    slots: &mut Slots,
-    store: &mut Store,
-    at: u32,
-    held: Held,
-) -> io::Result<Tally> {
-    let sent = held.marks;
-    let data = held.bytes;
+// A frame as it is on the cable at a time of its own.
+fn frame(at: u32, held: &Held) -> Frame {
     let marks = Marks {
         stamp: at,
-        id: sent.id,
+        id: held.marks.id,
         loopback: false,
     };
-    let frame = show::leading(&data, held.length);
-    show::frame(rt, marks, frame)?;
-    let answer = display.accept(slots, store, marks, frame);
-    show::answer(rt, answer, rx::payload(answer, frame, store))?;
-    Ok(count(tally, answer))
+    let bytes = held.bytes.get(..held.length).unwrap_or(&held.bytes);
+    Frame { marks, bytes }
 }
 
-// A frame that does not arrive.
-pub(crate) fn lose(rt: &impl Print, at: u32, held: Held) -> io::Result<()> {
-    let sent = held.marks;
-    let data = held.bytes;
-    let marks = Marks {
-        stamp: at,
-        id: sent.id,
-        loopback: false,
-    };
-    show::frame(rt, marks, show::leading(&data, held.length))?;
-    show::line(rt, "    lost on the cable")
+impl<'a, P: Print> Desk<'a, P> {
+    pub fn new(rt: &'a P) -> Self {
+        let mut slots = [[0; 4]; 128];
+        Desk {
+            rt,
+            display: subscribe(&mut slots),
+            slots,
+            store: [0; 4096],
+            delivered: 0,
+            refused: 0,
+        }
+    }
+
+    pub fn tell(&self, lines: &[&str]) -> io::Result<()> {
+        for line in lines {
+            self.rt.println(*line)?;
+        }
+        Ok(())
+    }
+
+    // A node puts a message into its queue.
+    pub fn send(
+        &self,
+        sender: &mut Sender,
+        mtu: usize,
+        header: Header,
+        id: u8,
+        payload: &[u8],
+    ) -> io::Result<()> {
+        match sender.send(mtu, header, id, payload) {
+            None => Ok(()),
+            Some(_) => self.tell(&["    the send was refused"]),
+        }
+    }
+
+    // A frame arrives at the display.
+    pub fn arrive(&mut self, at: u32, held: &Held) -> io::Result<()> {
+        let frame = frame(at, held);
+        println!(self.rt; "{frame}")?;
+        let answer = self.accept(frame);
+        self.show(answer, frame)
+    }
+
+    fn accept(&mut self, frame: Frame) -> Received {
+        let Frame { marks, bytes } = frame;
+        let answer = self
+            .display
+            .accept(&mut self.slots, &mut self.store, marks, bytes);
+        match answer {
+            Received::Delivered(_) => self.delivered = self.delivered.wrapping_add(1),
+            Received::Refused(_) => self.refused = self.refused.wrapping_add(1),
+            Received::Nothing | Received::NotOurs => {}
+        }
+        answer
+    }
+
+    // What the display says to the frame, and the bytes that it hands over.
+    fn show(&self, answer: Received, frame: Frame) -> io::Result<()> {
+        let payload = rx::payload(answer, frame.bytes, &self.store);
+        println!(self.rt; "    {}", Answer { answer, payload })
+    }
+
+    // A frame that does not arrive.
+    pub fn lose(&self, at: u32, held: &Held) -> io::Result<()> {
+        println!(self.rt; "{}", frame(at, held))?;
+        self.tell(&["    lost on the cable"])
+    }
 }
 
 // A frame of which one bit is turned round on the way.
-pub(crate) fn garbled(held: Held) -> Held {
-    let mut changed = held;
-    let mut data = held.bytes;
-    data[0] = data[0] ^ 0x10;
-    changed.bytes = data;
-    changed
+pub(crate) fn garbled(mut held: Held) -> Held {
+    held.bytes[0] ^= 0x10;
+    held
 }

@@ -1,136 +1,150 @@
-// What the lesson prints.
+// How the lesson prints what it shows.
 use rules::frame::Marks;
 use rules::header::{Header, Source};
 use rules::receive::{Delivery, Received};
 use rules::refusal::Refusal;
-use std::io;
-
-pub(crate) fn text(rt: &impl Print, words: &str) -> io::Result<()> {
-    print!(rt; "{words}")
-}
-
-pub(crate) fn line(rt: &impl Print, words: &str) -> io::Result<()> {
-    println!(rt; "{words}")
-}
-
-pub(crate) fn number(rt: &impl Print, n: u64) -> io::Result<()> {
-    print!(rt; "{n}")
-}
-
-// The leading bytes, all where there are fewer.
-pub(crate) fn leading<'a>(bytes: &'a [u8], n: usize) -> &'a [u8] {
-    if bytes.len() < n {
-        return bytes;
-    }
-    &bytes[..n]
-}
+use std::fmt;
+use std::fmt::Display;
 
 // Bytes in hexadecimal, as candump writes them.
-fn bytes(rt: &impl Print, data: &[u8]) -> io::Result<()> {
-    for byte in data {
-        print!(rt; "{byte:02X}")?;
+#[derive(Clone, Copy)]
+struct Bytes<'a>(&'a [u8]);
+
+impl Display for Bytes<'_> {
+    fn fmt<W: fmt::Write>(&self, f: &mut fmt::Formatter<W>) -> fmt::Result {
+        for byte in self.0 {
+            write!(f, "{byte:02X}")?;
+        }
+        Ok(())
     }
-    Ok(())
 }
 
 // A stamp in seconds, of six places.
-fn seconds(rt: &impl Print, stamp: u32) -> io::Result<()> {
-    let whole = stamp / 1_000_000;
-    let micros = stamp % 1_000_000;
-    print!(rt; "{whole}.{micros:06}")
+#[derive(Clone, Copy)]
+struct Seconds(u32);
+
+impl Display for Seconds {
+    fn fmt<W: fmt::Write>(&self, f: &mut fmt::Formatter<W>) -> fmt::Result {
+        write!(f, "{}.{:06}", self.0 / 1_000_000, self.0 % 1_000_000)
+    }
 }
 
 // A frame as candump logs it; one of more than 8 bytes is of CAN FD.
-pub(crate) fn frame(rt: &impl Print, marks: Marks, data: &[u8]) -> io::Result<()> {
-    let id = marks.id;
-    text(rt, "(")?;
-    seconds(rt, marks.stamp)?;
-    print!(rt; ") can0 {id:08X}")?;
-    if data.len() > 8 {
-        text(rt, "##1")?;
-    } else {
-        text(rt, "#")?;
-    }
-    bytes(rt, data)?;
-    line(rt, "")
+#[derive(Clone, Copy)]
+pub(crate) struct Frame<'a> {
+    pub marks: Marks,
+    pub bytes: &'a [u8],
 }
 
-fn source(rt: &impl Print, from: Source) -> io::Result<()> {
-    match from {
-        Source::Anonymous => text(rt, "nobody"),
-        Source::Node(node) => {
-            text(rt, "node ")?;
-            number(rt, node.0 as u64)
-        }
+impl Display for Frame<'_> {
+    fn fmt<W: fmt::Write>(&self, f: &mut fmt::Formatter<W>) -> fmt::Result {
+        let stamp = Seconds(self.marks.stamp);
+        let id = self.marks.id;
+        let mark = if self.bytes.len() > 8 { "##1" } else { "#" };
+        write!(f, "({stamp}) can0 {id:08X}{mark}{}", Bytes(self.bytes))
     }
 }
 
-// Who sent it, and under what.
-fn header(rt: &impl Print, of: Header) -> io::Result<()> {
-    match of {
-        Header::Message(message) => {
-            let from = message.source;
-            let subject = message.subject;
-            source(rt, from)?;
-            text(rt, ", subject ")?;
-            number(rt, subject.0 as u64)
-        }
-        Header::Request(request) => {
-            let from = request.source;
-            source(rt, from)?;
-            text(rt, ", a request")
-        }
-        Header::Response(response) => {
-            let from = response.source;
-            source(rt, from)?;
-            text(rt, ", a response")
+// Who sends.
+#[derive(Clone, Copy)]
+struct Who(Source);
+
+impl Display for Who {
+    fn fmt<W: fmt::Write>(&self, f: &mut fmt::Formatter<W>) -> fmt::Result {
+        match self.0 {
+            Source::Node(node) => write!(f, "node {}", node.0),
+            Source::Anonymous => write!(f, "nobody"),
         }
     }
 }
 
-fn delivery(rt: &impl Print, of: Delivery, payload: &[u8]) -> io::Result<()> {
-    let from = of.header;
-    let id = of.transfer_id;
-    text(rt, "    DELIVERED: ")?;
-    header(rt, from)?;
-    text(rt, ", transfer ")?;
-    number(rt, id.0 as u64)?;
-    text(rt, ", begun at ")?;
-    seconds(rt, of.stamp)?;
-    text(rt, ", ")?;
-    number(rt, payload.len() as u64)?;
-    text(rt, " bytes: ")?;
-    bytes(rt, payload)?;
-    text(rt, "\n")
+// Who sent a transfer, and under what.
+#[derive(Clone, Copy)]
+struct Origin(Header);
+
+impl Display for Origin {
+    fn fmt<W: fmt::Write>(&self, f: &mut fmt::Formatter<W>) -> fmt::Result {
+        match self.0 {
+            Header::Message(message) => {
+                let subject = message.subject.0;
+                write!(f, "{}, subject {subject}", Who(message.source))
+            }
+            Header::Request(request) => write!(f, "{}, a request", Who(request.source)),
+            Header::Response(response) => write!(f, "{}, a response", Who(response.source)),
+        }
+    }
 }
 
-fn refusal(rt: &impl Print, of: Refusal) -> io::Result<()> {
-    text(rt, "    refused by ")?;
-    number(rt, of.number() as u64)?;
-    match of {
-        Refusal::NoSession => line(rt, ", no session and no start bit"),
-        Refusal::Residue => line(rt, ", a residue other than 0"),
-        Refusal::CanId => line(rt, ", a CAN ID that there is not"),
-        Refusal::NoBytes => line(rt, ", no bytes"),
-        Refusal::FrameTooLong => line(rt, ", a frame too long"),
-        Refusal::ReservedBit => line(rt, ", a reserved bit"),
-        Refusal::StoreTooSmall => line(rt, ", a store too small"),
-        Refusal::ExtentTooLarge => line(rt, ", an extent too large"),
-        Refusal::Mtu => line(rt, ", an MTU that there is not"),
-        Refusal::PayloadTooLong => line(rt, ", a payload too long"),
-        Refusal::AnonymousTooLong => line(rt, ", an anonymous payload too long"),
-        Refusal::Field => line(rt, ", a field out of its limits"),
-        Refusal::NoPlace => line(rt, ", no free place"),
-        Refusal::CapacityTooLarge => line(rt, ", a capacity too large"),
+// Why a frame is refused: the number that it has in the papers, and words.
+#[derive(Clone, Copy)]
+struct Why(Refusal);
+
+impl Why {
+    fn words(self) -> &'static str {
+        match self.0 {
+            Refusal::NoSession => "no session and no start bit",
+            Refusal::Residue => "a residue other than 0",
+            Refusal::CanId => "a CAN ID that there is not",
+            Refusal::NoBytes => "no bytes",
+            Refusal::FrameTooLong => "a frame too long",
+            Refusal::ReservedBit => "a reserved bit",
+            Refusal::StoreTooSmall => "a store too small",
+            Refusal::ExtentTooLarge => "an extent too large",
+            Refusal::Mtu => "an MTU that there is not",
+            Refusal::PayloadTooLong => "a payload too long",
+            Refusal::AnonymousTooLong => "an anonymous payload too long",
+            Refusal::Field => "a field out of its limits",
+            Refusal::NoPlace => "no free place",
+            Refusal::CapacityTooLarge => "a capacity too large",
+        }
+    }
+}
+
+impl Display for Why {
+    fn fmt<W: fmt::Write>(&self, f: &mut fmt::Formatter<W>) -> fmt::Result {
+        write!(f, "{}, {}", self.0.number(), self.words())
+    }
+}
+
+// A transfer, and its bytes.
+#[derive(Clone, Copy)]
+struct Handed<'a> {
+    delivery: Delivery,
+    payload: &'a [u8],
+}
+
+impl Display for Handed<'_> {
+    fn fmt<W: fmt::Write>(&self, f: &mut fmt::Formatter<W>) -> fmt::Result {
+        let from = Origin(self.delivery.header);
+        let id = self.delivery.transfer_id.0;
+        let begun = Seconds(self.delivery.stamp);
+        let count = self.payload.len();
+        let bytes = Bytes(self.payload);
+        write!(
+            f,
+            "{from}, transfer {id}, begun at {begun}, {count} bytes: {bytes}"
+        )
     }
 }
 
 // What the display says to a frame, and the bytes that it hands over.
-pub(crate) fn answer(rt: &impl Print, of: Received, payload: &[u8]) -> io::Result<()> {
-    match of {
-        Received::Delivered(handed) => delivery(rt, handed, payload),
-        Received::Nothing => line(rt, "    nothing"),
-        Received::NotOurs => line(rt, "    not ours"),
-        Received::Refused(why) => refusal(rt, why),
+#[derive(Clone, Copy)]
+pub(crate) struct Answer<'a> {
+    pub answer: Received,
+    pub payload: &'a [u8],
+}
+
+impl Display for Answer<'_> {
+    fn fmt<W: fmt::Write>(&self, f: &mut fmt::Formatter<W>) -> fmt::Result {
+        let payload = self.payload;
+        match self.answer {
+            Received::Delivered(delivery) => {
+                let handed = Handed { delivery, payload };
+                write!(f, "DELIVERED: {handed}")
+            }
+            Received::Nothing => write!(f, "nothing"),
+            Received::NotOurs => write!(f, "not ours"),
+            Received::Refused(refusal) => write!(f, "refused by {}", Why(refusal)),
+        }
     }
 }

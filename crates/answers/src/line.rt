@@ -1,232 +1,137 @@
 // The queue and the sender above it.
-use crate::record::Record;
-use crate::{header, payload, record};
+use crate::record::{Answer, Record};
+use crate::{header, payload};
 use queue::{ArrayQueue, Held, MadeQueue, Place, Pushed};
-use rules::frame::Marks;
-use rules::placing::Placing;
-use rules::send::{Sending, Transfer};
+use rules::send::Transfer;
 use rules::types::CanTransferId;
 use tx::CanTransmitter;
 
-pub(crate) type Places = [Place; 256];
-
-#[derive(Clone, Copy)]
+// A queue, the places that it is lent with each call, and the sender. A method answers whether the answer of its call is the original's.
+#[derive(Drop)]
 pub(crate) struct Line {
-    pub queue: ArrayQueue,
-    pub transmitter: CanTransmitter,
+    queue: ArrayQueue,
+    places: [Place; 256],
+    transmitter: CanTransmitter,
 }
 
-// The line after a call, and whether the answer is the original's.
-#[derive(Clone, Copy)]
-pub(crate) struct Told {
-    pub line: Line,
-    pub right: bool,
+impl Line {
+    pub fn new() -> Self {
+        Line {
+            queue: ArrayQueue {
+                head: 0,
+                length: 0,
+                capacity: 0,
+            },
+            places: [[0; 76]; 256],
+            transmitter: CanTransmitter::new(8),
+        }
+    }
+
+    pub fn renew(&mut self, record: &Record) -> bool {
+        let [capacity, mtu, ..] = record.words;
+        let MadeQueue::Made(queue) = ArrayQueue::new(capacity as usize) else {
+            return false;
+        };
+        self.queue = queue;
+        self.transmitter = CanTransmitter::new(mtu as usize);
+        record.tells(Answer::Done)
+    }
+
+    fn len(&self) -> usize {
+        self.queue.len(&self.places)
+    }
+
+    fn is_placed(&mut self, pushed: Pushed, record: &Record) -> bool {
+        self.queue = pushed.queue;
+        record.tells_queued(pushed.answer.into(), self.len())
+    }
+
+    pub fn push(&mut self, record: &Record) -> bool {
+        let pushed = self
+            .queue
+            .push_frame(&mut self.places, record.marks(), record.frame());
+        self.is_placed(pushed, record)
+    }
+
+    pub fn put_back(&mut self, record: &Record) -> bool {
+        let pushed = self
+            .queue
+            .return_frame(&mut self.places, record.marks(), record.frame());
+        self.is_placed(pushed, record)
+    }
+
+    pub fn peek(&self, record: &Record) -> bool {
+        let held = self.queue.peek_frame(&self.places);
+        is_shown(held, record, self.len())
+    }
+
+    pub fn pop(&mut self, record: &Record) -> bool {
+        let popped = self.queue.pop_frame(&self.places);
+        self.queue = popped.queue;
+        is_shown(popped.held, record, self.len())
+    }
+
+    pub fn reserve(&self, record: &Record) -> bool {
+        let frames = record.words[0] as usize;
+        record.tells(self.queue.try_reserve(&self.places, frames).into())
+    }
+
+    pub fn set_mtu(&mut self, record: &Record) -> bool {
+        self.transmitter = self.transmitter.set_mtu(record.words[0] as usize);
+        record.tells(Answer::Done)
+    }
+
+    pub fn send(&mut self, record: &Record) -> bool {
+        let [length, seed] = halves(record.words[3]);
+        let bytes = payload::of(seed);
+        let payload = bytes.get(..length as usize).unwrap_or(&bytes);
+        let sent = self
+            .transmitter
+            .push(self.queue, &mut self.places, transfer(record), payload);
+        self.queue = sent.queue;
+        self.transmitter = sent.transmitter;
+        record.tells_queued(sent.answer.into(), self.len()) && self.is_counted(record)
+    }
+
+    fn is_counted(&self, record: &Record) -> bool {
+        let [.., done, refused] = record.words;
+        self.transmitter.transfer_count() == u64::from(done)
+            && self.transmitter.error_count() == u64::from(refused)
+    }
 }
 
-fn marks(record: Record) -> Marks {
-    Marks {
-        stamp: record.w0,
-        id: record.w1,
+// The lower half of a word, and the upper.
+fn halves(word: u32) -> [u16; 2] {
+    let [a, b, c, d] = word.to_le_bytes();
+    [u16::from_le_bytes([a, b]), u16::from_le_bytes([c, d])]
+}
+
+fn transfer(record: &Record) -> Transfer {
+    let [stamp, word, port, ..] = record.words;
+    let [low, high, id, _] = port.to_le_bytes();
+    Transfer {
+        header: header::made(word, u16::from_le_bytes([low, high])),
+        transfer_id: CanTransferId(id),
+        stamp,
         loopback: record.flag,
     }
-}
-
-fn placed(answer: Placing) -> u32 {
-    match answer {
-        Placing::Placed => 0,
-        Placing::Refused(refusal) => record::refused(refusal.number()),
-    }
-}
-
-fn is_told(told: u32, queued: usize, record: Record) -> bool {
-    if told != record::answered(record) {
-        return false;
-    }
-    queued == record.w4 as usize
-}
-
-fn fresh(line: Line, record: Record) -> Told {
-    match ArrayQueue::new(record.w0 as usize) {
-        MadeQueue::Made(queue) => Told {
-            line: Line {
-                queue,
-                transmitter: CanTransmitter::new(record.w1 as usize),
-            },
-            right: record::is_done(record),
-        },
-        MadeQueue::Refused(_) => Told { line, right: false },
-    }
-}
-
-fn after(line: Line, places: &Places, pushed: Pushed, record: Record) -> Told {
-    let queue = pushed.queue;
-    let answer = pushed.answer;
-    let right = is_told(placed(answer), queue.len(places), record);
-    let transmitter = line.transmitter;
-    Told {
-        line: Line { queue, transmitter },
-        right,
-    }
-}
-
-fn push(line: Line, places: &mut Places, record: Record) -> Told {
-    let queue = line.queue;
-    let data = record.data;
-    let bytes = record::leading(&data, record.length);
-    let pushed = queue.push_frame(places, marks(record), bytes);
-    after(line, places, pushed, record)
-}
-
-fn put_back(line: Line, places: &mut Places, record: Record) -> Told {
-    let queue = line.queue;
-    let data = record.data;
-    let bytes = record::leading(&data, record.length);
-    let pushed = queue.return_frame(places, marks(record), bytes);
-    after(line, places, pushed, record)
-}
-
-// Whether these are the record's stamp, CAN ID and flag.
-fn is_marked(marks: Marks, record: Record) -> bool {
-    if marks.stamp != record.w0 {
-        return false;
-    }
-    if marks.id != record.w1 {
-        return false;
-    }
-    marks.loopback == record.flag
-}
-
-fn is_filled(held: Held, record: Record) -> bool {
-    let bytes = held.bytes;
-    let wanted = record.data;
-    bytes == wanted
-}
-
-fn is_frame(held: Held, record: Record) -> bool {
-    if held.length != record.length {
-        return false;
-    }
-    if !is_marked(held.marks, record) {
-        return false;
-    }
-    is_filled(held, record)
-}
-
-// A frame that was found is answer 0, none is answer 2.
-fn shown(found: bool) -> u32 {
-    if found { 0 } else { 0x200 }
 }
 
 // Whether a frame that was shown is the record's; none is all zeros.
-fn is_shown(held: Held, queued: usize, record: Record) -> bool {
-    if !is_told(shown(held.found), queued, record) {
-        return false;
-    }
-    is_frame(held, record)
+fn is_shown(held: Held, record: &Record, queued: usize) -> bool {
+    let answer = if held.found {
+        Answer::Done
+    } else {
+        Answer::Nothing
+    };
+    record.tells_queued(answer, queued) && is_frame(held, record)
 }
 
-fn peek(line: Line, places: &Places, record: Record) -> Told {
-    let queue = line.queue;
-    let right = is_shown(queue.peek_frame(places), queue.len(places), record);
-    Told { line, right }
-}
-
-fn pop(line: Line, places: &Places, record: Record) -> Told {
-    let queue = line.queue;
-    let popped = queue.pop_frame(places);
-    let left = popped.queue;
-    let right = is_shown(popped.held, left.len(places), record);
-    let transmitter = line.transmitter;
-    Told {
-        line: Line {
-            queue: left,
-            transmitter,
-        },
-        right,
-    }
-}
-
-fn reserve(line: Line, places: &Places, record: Record) -> Told {
-    let queue = line.queue;
-    let answer = queue.try_reserve(places, record.w0 as usize);
-    let right = placed(answer) == record::answered(record);
-    Told { line, right }
-}
-
-fn set_mtu(line: Line, record: Record) -> Told {
-    let queue = line.queue;
-    let transmitter = line.transmitter.set_mtu(record.w0 as usize);
-    Told {
-        line: Line { queue, transmitter },
-        right: record::is_done(record),
-    }
-}
-
-fn sent(answer: Sending) -> u32 {
-    match answer {
-        Sending::Done => 0,
-        Sending::Refused(refusal) => record::refused(refusal.number()),
-    }
-}
-
-fn is_counted(transmitter: CanTransmitter, record: Record) -> bool {
-    if transmitter.transfer_count() != record.w5 as u64 {
-        return false;
-    }
-    transmitter.error_count() == record.w6 as u64
-}
-
-fn transfer(record: Record) -> Transfer {
-    Transfer {
-        header: header::made(record.w1, record::low16(record.w2)),
-        transfer_id: CanTransferId(record::low8(record.w2 >> 16)),
-        stamp: record.w0,
-        loopback: record.flag,
-    }
-}
-
-fn send(line: Line, places: &mut Places, record: Record) -> Told {
-    let bytes = payload::of(record.w3 >> 16);
-    let length = record::low16(record.w3) as usize;
-    let queue = line.queue;
-    let before = line.transmitter;
-    let sent = before.push(
-        queue,
-        places,
-        transfer(record),
-        record::leading(&bytes, length),
-    );
-    let after = sent.queue;
-    let transmitter = sent.transmitter;
-    let answer = sent.answer;
-    let right = is_sent(answer, after.len(places), transmitter, record);
-    Told {
-        line: Line {
-            queue: after,
-            transmitter,
-        },
-        right,
-    }
-}
-
-fn is_sent(answer: Sending, queued: usize, transmitter: CanTransmitter, record: Record) -> bool {
-    if !is_told(sent(answer), queued, record) {
-        return false;
-    }
-    is_counted(transmitter, record)
-}
-
-pub(crate) fn replay(line: Line, places: &mut Places, record: Record) -> Told {
-    let kind = record.kind;
-    match kind {
-        4 => fresh(line, record),
-        5 => push(line, places, record),
-        6 => put_back(line, places, record),
-        7 => peek(line, places, record),
-        8 => pop(line, places, record),
-        9 => reserve(line, places, record),
-        10 => set_mtu(line, record),
-        11 => send(line, places, record),
-        _ => Told { line, right: false },
-    }
+fn is_frame(held: Held, record: &Record) -> bool {
+    let wanted = record.marks();
+    held.marks.stamp == wanted.stamp
+        && held.marks.id == wanted.id
+        && held.marks.loopback == wanted.loopback
+        && held.length == record.length
+        && held.bytes == record.data
 }

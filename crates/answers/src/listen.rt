@@ -1,129 +1,93 @@
 // The subscription.
-use crate::record::Record;
-use crate::{header, payload, record};
-use rules::frame::Marks;
+use crate::record::{Answer, Record};
+use crate::{header, payload};
 use rules::receive::{Delivery, Received};
-use rules::subscription::{Port, ServicePort};
+use rules::subscription::{Port, ServicePort, Settings};
 use rules::types::{CanNodeId, ServiceId, SubjectId};
 use rx::subscription::{Subscribed, Subscription};
 use slots::Slots;
 
-// 1,024 bytes for each of 128 sources: enough for any extent.
-pub(crate) type Store = [u8; 131072];
-
-// The subscription after a call, and whether the answer is the original's.
-#[derive(Clone, Copy)]
-pub(crate) struct Heard {
-    pub subscription: Subscription,
-    pub right: bool,
+// A subscription, and the slots and the store that it is lent with each call: 1,024 bytes for each of 128 sources are enough for any extent. A method answers
+// whether the answer of its call is the original's.
+#[derive(Drop)]
+pub(crate) struct Listener {
+    subscription: Subscription,
+    slots: Slots,
+    store: [u8; 131072],
 }
 
-fn service(word: u32) -> ServicePort {
-    ServicePort {
-        service: ServiceId(record::low16(word >> 16)),
-        node: CanNodeId(record::low8(word >> 8)),
+impl Listener {
+    pub fn new() -> Self {
+        Listener {
+            subscription: Subscription {
+                settings: Settings {
+                    port: Port::Message(SubjectId(0)),
+                    timeout: 0,
+                    extent: 0,
+                },
+            },
+            slots: [[0; 4]; 128],
+            store: [0; 131072],
+        }
+    }
+
+    pub fn subscribe(&mut self, record: &Record) -> bool {
+        let [timeout, word, extent, ..] = record.words;
+        match Subscription::new(port(word), timeout, extent as usize, &mut self.slots) {
+            Subscribed::Made(subscription) => {
+                self.subscription = subscription;
+                record.tells(Answer::Done)
+            }
+            Subscribed::Refused(_) => false,
+        }
+    }
+
+    pub fn accept(&mut self, record: &Record) -> bool {
+        let frame = record.frame();
+        let answer = self
+            .subscription
+            .accept(&mut self.slots, &mut self.store, record.marks(), frame);
+        is_answer(answer, rx::payload(answer, frame, &self.store), record)
     }
 }
 
+// The port of a word.
 fn port(word: u32) -> Port {
-    match record::low8(word) {
-        0 => Port::Message(SubjectId(record::low16(word >> 16))),
-        1 => Port::Request(service(word)),
-        _ => Port::Response(service(word)),
+    let [kind, node, low, high] = word.to_le_bytes();
+    let number = u16::from_le_bytes([low, high]);
+    let service = ServicePort {
+        service: ServiceId(number),
+        node: CanNodeId(node),
+    };
+    match kind {
+        0 => Port::Message(SubjectId(number)),
+        1 => Port::Request(service),
+        _ => Port::Response(service),
     }
 }
 
-fn subscribe(before: Subscription, slots: &mut Slots, record: Record) -> Heard {
-    match Subscription::new(port(record.w1), record.w0, record.w2 as usize, slots) {
-        Subscribed::Made(subscription) => Heard {
-            subscription,
-            right: record::is_done(record),
-        },
-        Subscribed::Refused(_) => Heard {
-            subscription: before,
-            right: false,
-        },
+fn is_answer(answer: Received, bytes: &[u8], record: &Record) -> bool {
+    match answer {
+        Received::Delivered(delivery) => {
+            record.tells(Answer::Delivered) && is_delivered(delivery, bytes, record)
+        }
+        Received::Nothing => record.tells(Answer::Nothing),
+        Received::NotOurs => record.tells(Answer::NotOurs),
+        Received::Refused(refusal) => record.tells(Answer::Refused(refusal.number())),
     }
+}
+
+fn is_delivered(delivery: Delivery, bytes: &[u8], record: &Record) -> bool {
+    let [_, _, word, port, stamp, length, mix] = record.words;
+    header::word(delivery.header) == word
+        && port_word(delivery) == port
+        && delivery.stamp == stamp
+        && bytes.len() == length as usize
+        && payload::mix(bytes) == mix
 }
 
 // Port, ID and flag of a delivery as a word.
 fn port_word(delivery: Delivery) -> u32 {
-    let header = delivery.header;
-    let id = delivery.transfer_id;
-    let flag = delivery.loopback as u32;
-    header::port(header) | ((id.0 as u32) << 16) | (flag << 24)
-}
-
-fn is_headed(delivery: Delivery, record: Record) -> bool {
-    let header = delivery.header;
-    if header::word(header) != record.w2 {
-        return false;
-    }
-    if port_word(delivery) != record.w3 {
-        return false;
-    }
-    delivery.stamp == record.w4
-}
-
-fn is_payload(bytes: &[u8], record: Record) -> bool {
-    if bytes.len() != record.w5 as usize {
-        return false;
-    }
-    payload::mix(bytes) == record.w6
-}
-
-fn is_delivered(delivery: Delivery, bytes: &[u8], record: Record) -> bool {
-    if record::answered(record) != 0x100 {
-        return false;
-    }
-    if !is_headed(delivery, record) {
-        return false;
-    }
-    is_payload(bytes, record)
-}
-
-fn is_answer(answer: Received, bytes: &[u8], record: Record) -> bool {
-    match answer {
-        Received::Delivered(delivery) => is_delivered(delivery, bytes, record),
-        Received::Nothing => record::answered(record) == 0x200,
-        Received::NotOurs => record::answered(record) == 0x300,
-        Received::Refused(refusal) => {
-            record::answered(record) == record::refused(refusal.number())
-        }
-    }
-}
-
-fn accept(by: Subscription, slots: &mut Slots, store: &mut Store, record: Record) -> bool {
-    let marks = Marks {
-        stamp: record.w0,
-        id: record.w1,
-        loopback: record.flag,
-    };
-    let data = record.data;
-    let frame = record::leading(&data, record.length);
-    let answer = by.accept(slots, store, marks, frame);
-    is_answer(answer, rx::payload(answer, frame, store), record)
-}
-
-pub(crate) fn replay(
-    subscription: Subscription,
-    slots: &mut Slots,
-    store: &mut Store,
-    record: Record,
-) -> Heard {
-    let kind = record.kind;
-    match kind {
-        12 => subscribe(subscription, slots, record),
-        13 => {
-            let right = accept(subscription, slots, store, record);
-            Heard {
-                subscription,
-                right,
-            }
-        }
-        _ => Heard {
-            subscription,
-            right: false,
-        },
-    }
+    let [low, high] = header::port(delivery.header).to_le_bytes();
+    u32::from_le_bytes([low, high, delivery.transfer_id.0, delivery.loopback as u8])
 }

@@ -1,73 +1,63 @@
 // Plans and the tracker.
-use crate::record;
-use crate::record::Record;
+use crate::record::{Answer, Record};
 use rules::data::{Mtu, TriedMtu};
-use rules::stats::Planned;
-use rules::types::{CanNodeId, TriedCanTransferId};
+use rules::stats::{FrameStats, Planned};
+use rules::types::{CanNodeId, CanTransferId, TriedCanTransferId};
 use tracker::CanTransferIdTracker;
 
-// The tracker after a call, and whether the answer is the original's.
+// The plan of a payload, if there is one.
+fn plan(length: usize, mtu: usize) -> Option<FrameStats> {
+    let TriedMtu::Valid(mtu) = Mtu::try_from(mtu) else {
+        return None;
+    };
+    match wire::calculate_frame_stats(length, mtu) {
+        Planned::Stats(stats) => Some(stats),
+        Planned::Refused(_) => None,
+    }
+}
+
+pub(crate) fn is_plan(record: &Record) -> bool {
+    let [length, mtu, _, _, frames, padding, _] = record.words;
+    record.tells(Answer::Done)
+        && plan(length as usize, mtu as usize).is_some_and(|stats| {
+            stats.frames == frames as usize && stats.last_frame_padding == padding as usize
+        })
+}
+
+// The tracker, and whether its answers are the original's.
 #[derive(Clone, Copy)]
-pub(crate) struct Numbered {
-    pub tracker: CanTransferIdTracker,
-    pub right: bool,
+pub(crate) struct Numbers {
+    tracker: CanTransferIdTracker,
 }
 
-fn planned(mtu: Mtu, record: Record) -> bool {
-    match wire::calculate_frame_stats(record.w0 as usize, mtu) {
-        Planned::Stats(stats) => {
-            if stats.frames != record.w4 as usize {
-                return false;
-            }
-            stats.last_frame_padding == record.w5 as usize
-        }
-        Planned::Refused(_) => false,
-    }
-}
-
-fn plan(record: Record) -> bool {
-    match Mtu::try_from(record.w1 as usize) {
-        TriedMtu::Valid(mtu) => planned(mtu, record),
-        TriedMtu::Refused(_) => false,
-    }
-}
-
-fn is_id(answer: TriedCanTransferId, wanted: u32) -> bool {
-    match answer {
-        TriedCanTransferId::Valid(id) => id.0 as u32 == wanted,
-        TriedCanTransferId::Refused(_) => false,
-    }
-}
-
-fn next_id(tracker: CanTransferIdTracker, record: Record) -> Numbered {
-    let asked = tracker.next_transfer_id(CanNodeId(record::low8(record.w0)));
-    let answer = asked.answer;
-    let tracker = asked.tracker;
-    let right = is_id(answer, record.w4);
-    Numbered { tracker, right }
-}
-
-pub(crate) fn replay(tracker: CanTransferIdTracker, record: Record) -> Numbered {
-    if !record::is_done(record) {
-        return Numbered {
-            tracker,
-            right: false,
-        };
-    }
-    let kind = record.kind;
-    match kind {
-        1 => Numbered {
-            tracker,
-            right: plan(record),
-        },
-        2 => Numbered {
+impl Numbers {
+    pub fn new() -> Self {
+        Numbers {
             tracker: CanTransferIdTracker::new(),
-            right: true,
-        },
-        3 => next_id(tracker, record),
-        _ => Numbered {
-            tracker,
-            right: false,
-        },
+        }
+    }
+
+    pub fn renew(&mut self, record: &Record) -> bool {
+        *self = Numbers::new();
+        record.tells(Answer::Done)
+    }
+
+    // The number that the tracker gives a destination, if it gives one.
+    fn next(&mut self, destination: CanNodeId) -> Option<CanTransferId> {
+        let asked = self.tracker.next_transfer_id(destination);
+        self.tracker = asked.tracker;
+        match asked.answer {
+            TriedCanTransferId::Valid(id) => Some(id),
+            TriedCanTransferId::Refused(_) => None,
+        }
+    }
+
+    pub fn is_next(&mut self, record: &Record) -> bool {
+        let [destination, _, _, _, wanted, ..] = record.words;
+        let [node, ..] = destination.to_le_bytes();
+        record.tells(Answer::Done)
+            && self
+                .next(CanNodeId(node))
+                .is_some_and(|id| u32::from(id.0) == wanted)
     }
 }

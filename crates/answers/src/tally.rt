@@ -1,50 +1,58 @@
-// How many answers were the original's, kind by kind.
+// How many answers were the original's, call by call.
+use crate::call::Call;
+use std::fmt::Display;
 use std::io;
 
-// Places 1 to 13 count the kinds, place 16 counts all.
-pub(crate) type Counts = [u64; 17];
-
-fn step(counts: &mut Counts, kind: u8) {
-    let own = (kind % 16) as usize;
-    let n = counts[own];
-    counts[own] = std::num::wrapping_add_u64(n, 1);
-    let all = counts[16];
-    counts[16] = std::num::wrapping_add_u64(all, 1);
+#[derive(Clone, Copy)]
+struct Count {
+    right: u64,
+    wrong: u64,
 }
 
-pub(crate) fn count(right: &mut Counts, wrong: &mut Counts, kind: u8, is_right: bool) {
-    if is_right {
-        step(right, kind);
-    } else {
-        step(wrong, kind);
+impl Count {
+    const NONE: Count = Count { right: 0, wrong: 0 };
+
+    fn add(&mut self, is_right: bool) {
+        let counted = if is_right {
+            &mut self.right
+        } else {
+            &mut self.wrong
+        };
+        *counted = counted.wrapping_add(1);
+    }
+
+    fn show<N: Display + Drop>(self, rt: &impl Print, name: N) -> io::Result<()> {
+        let Count { right, wrong } = self;
+        println!(rt; "{name}: {right} as the original answers, {wrong} otherwise")
     }
 }
 
-fn row(rt: &impl Print, kind: &str, right: u64, wrong: u64) -> io::Result<()> {
-    println!(rt; "{kind}: {right} as the original answers, {wrong} otherwise")
+// A count for each call, by its number, and one for all.
+#[derive(Clone, Copy)]
+pub(crate) struct Tally {
+    calls: [Count; 14],
+    all: Count,
 }
 
-fn first_rows(rt: &impl Print, right: &Counts, wrong: &Counts) -> io::Result<()> {
-    row(rt, "plan", right[1], wrong[1])?;
-    row(rt, "fresh tracker", right[2], wrong[2])?;
-    row(rt, "next transfer ID", right[3], wrong[3])?;
-    row(rt, "fresh queue", right[4], wrong[4])?;
-    row(rt, "push a frame", right[5], wrong[5])?;
-    row(rt, "return a frame", right[6], wrong[6])?;
-    row(rt, "peek", right[7], wrong[7])
-}
+impl Tally {
+    pub fn new() -> Self {
+        Tally {
+            calls: [Count::NONE; 14],
+            all: Count::NONE,
+        }
+    }
 
-fn last_rows(rt: &impl Print, right: &Counts, wrong: &Counts) -> io::Result<()> {
-    row(rt, "pop", right[8], wrong[8])?;
-    row(rt, "reserve", right[9], wrong[9])?;
-    row(rt, "set the MTU", right[10], wrong[10])?;
-    row(rt, "send", right[11], wrong[11])?;
-    row(rt, "subscription", right[12], wrong[12])?;
-    row(rt, "accept", right[13], wrong[13])
-}
+    pub fn count(&mut self, call: Option<Call>, is_right: bool) {
+        if let Some(call) = call {
+            self.calls[call as usize].add(is_right);
+        }
+        self.all.add(is_right);
+    }
 
-pub(crate) fn show(rt: &impl Print, right: &Counts, wrong: &Counts) -> io::Result<()> {
-    first_rows(rt, right, wrong)?;
-    last_rows(rt, right, wrong)?;
-    row(rt, "in all", right[16], wrong[16])
+    pub fn show(&self, rt: &impl Print) -> io::Result<()> {
+        for call in Call::ALL {
+            self.calls[call as usize].show(rt, call)?;
+        }
+        self.all.show(rt, "in all")
+    }
 }

@@ -1,53 +1,62 @@
 // What is printed, and how many rows were right.
-use std::io;
+use std::fmt::Display;
+use std::{fmt, io};
 
-#[derive(Clone, Copy)]
-pub(crate) struct Tally {
-    pub right: u64,
-    pub wrong: u64,
+// The sheet as it is printed: where to, and how many of its rows were as they should be.
+#[derive(Drop)]
+pub(crate) struct Sheet<'a, P: Print> {
+    rt: &'a P,
+    right: u64,
+    wrong: u64,
 }
 
-pub(crate) fn line(rt: &impl Print, text: &str) -> io::Result<()> {
-    println!(rt; "{text}")
-}
+// A number of so many hexadecimal digits.
+#[derive(Clone, Copy, PartialEq, Eq)]
+pub(crate) struct Hex<const DIGITS: usize>(pub u64);
 
-// A row: what was asked, what the code gives, and whether that is what was wanted. As many hexadecimal digits as told; none means decimal.
-pub(crate) fn row(
-    rt: &impl Print,
-    tally: Tally,
-    asked: &str,
-    digits: usize,
-    got: u64,
-    wanted: u64,
-) -> io::Result<Tally> {
-    print!(rt; "  {asked}: ")?;
-    number(rt, digits, got)?;
-    if got == wanted {
-        line(rt, "")?;
-        return Ok(Tally {
-            right: tally.right.wrapping_add(1),
-            wrong: tally.wrong,
-        });
-    }
-    print!(rt; "  WRONG, it should be ")?;
-    number(rt, digits, wanted)?;
-    line(rt, "")?;
-    Ok(Tally {
-        right: tally.right,
-        wrong: tally.wrong.wrapping_add(1),
-    })
-}
-
-fn number(rt: &impl Print, digits: usize, n: u64) -> io::Result<()> {
-    if digits == 0 {
-        print!(rt; "{n}")
-    } else {
-        print!(rt; "{n:0digits$x}")
+impl<const DIGITS: usize> Display for Hex<DIGITS> {
+    fn fmt<W: fmt::Write>(&self, f: &mut fmt::Formatter<W>) -> fmt::Result {
+        let n = self.0;
+        write!(f, "{n:0DIGITS$x}")
     }
 }
 
-pub(crate) fn total(rt: &impl Print, tally: Tally) -> io::Result<()> {
-    let right = tally.right;
-    let wrong = tally.wrong;
-    println!(rt; "{right} rows right, {wrong} wrong")
+impl<'a, P: Print> Sheet<'a, P> {
+    pub fn new(rt: &'a P) -> Self {
+        Sheet {
+            rt,
+            right: 0,
+            wrong: 0,
+        }
+    }
+
+    pub fn line(&self, text: &str) -> io::Result<()> {
+        self.rt.println(text)
+    }
+
+    // A row: what was asked, what the code gives, and whether that is what was wanted.
+    pub fn row<A: Display + Drop, N: Display + PartialEq + Copy>(
+        &mut self,
+        asked: A,
+        got: N,
+        wanted: N,
+    ) -> io::Result<()> {
+        if got == wanted {
+            self.right = self.right.wrapping_add(1);
+            return println!(self.rt; "  {asked}: {got}");
+        }
+        self.wrong = self.wrong.wrapping_add(1);
+        println!(self.rt; "  {asked}: {got}  WRONG, it should be {wanted}")
+    }
+
+    // A row that asks for a yes, which is printed as 1.
+    pub fn holds<A: Display + Drop>(&mut self, asked: A, got: bool) -> io::Result<()> {
+        self.row(asked, got as u8, 1)
+    }
+
+    pub fn total(&self) -> io::Result<()> {
+        let right = self.right;
+        let wrong = self.wrong;
+        println!(self.rt; "{right} rows right, {wrong} wrong")
+    }
 }

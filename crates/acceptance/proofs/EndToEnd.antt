@@ -1,17 +1,15 @@
 -- One scan in, one scan out. A send that was done queued the published rule's frames under the CAN ID that its header makes (the sender's promise), an ordered
 -- queue has them together (the book's insertion), pops hand them out so (the queue's promise), and their ID reads back as that header: they are a transfer of
 -- demand 3.
+use Rattle.std.specs.Prelude.{Err, Ok, Result, Option, Some}
+use Rattle.rules.specs.declared.refusal.Refusal.{Refusal}
 use mathlib.Core.Path.{◌≡◌, refl, sym, ap, ap₂, subst, ◌∙◌}
 use mathlib.Core.List.{List, [], ◌∷◌, ◌++◌, map}
-use mathlib.Core.Option.{Option, some}
 use Prim.Native.Nat.{ℕ, suc, ◌*◌, ◌≤◌}
 use native.Mathlib.Omega.{arith}
 use lib.ListN.{length, length-append, length-map}
 use Rattle.rules.specs.declared.frame.Marks.{Marks}
 use Rattle.rules.specs.declared.send.Outgoing.{Outgoing}
-use Rattle.rules.specs.declared.send.Judged.{Judged}
-use Rattle.rules.specs.declared.send.Judged.TheVariants.{Goes, Refused}
-use Rattle.rules.specs.declared.send.Sending.TheVariants.{Done}
 use Rattle.rules.specs.declared.subscription.Settings.{Settings}
 use Rattle.rules.specs.Limits.{nodes}
 use Rattle.rules.specs.Transfer.{frames_of}
@@ -32,15 +30,15 @@ use Rattle.queue.proofs.Shown.{shown_first}
 use Rattle.queue.proofs.Drain.{Run, stop, next}
 use Rattle.acceptance.specs.Runs.{Lent}
 use Rattle.acceptance.specs.EndToEnd.{arrived_at, SendDone, ForUs, judged_of, frames_out, scan_of, with_shown, handed_out, OneScan}
-use Rattle.acceptance.proofs.Granted.{sound}
+use Rattle.rules.proofs.Granted.{sound}
 use Rattle.acceptance.proofs.Demand3.{demand3_of_code}
 
 -- ---- what a send that was done sent
 
 -- what is answered "done" was judged to go
-went : (j : Judged) → answer j ≡ Done → (o : Outgoing) × (j ≡ Goes o)
-went (Goes o) e = (o, refl)
-went (Refused r) e = let z : ◌≡◌ {A = ℕ} 0 1 = cc in absurd (omega arith)
+went : (j : Result Outgoing Refusal) → answer j ≡ Ok tt → (o : Outgoing) × (j ≡ Ok o)
+went (Ok o) e = (o, refl)
+went (Err r) e = let z : ◌≡◌ {A = ℕ} 0 1 = cc in absurd (omega arith)
 
 -- frames with the same marks, as they arrive
 arrived_marks : (marks : Marks) (bs : List (List ℕ)) (at : ℕ → ℕ) → arrived_at at (map (frame marks) bs) ≡ arriving marks.id marks.loopback at bs
@@ -48,7 +46,7 @@ arrived_marks marks [] at = refl
 arrived_marks marks (b ∷ bs) at =
     ap (λ (l : List Frame). record { stamp = at 0; id = marks.id; loopback = marks.loopback; bytes = b } ∷ l) (arrived_marks marks bs (λ k. at (suc k)))
 
-module _ (d : SendDone) (o : Outgoing) (goes : judged_of d ≡ Goes o) where
+module _ (d : SendDone) (o : Outgoing) (goes : judged_of d ≡ Ok o) where
   abbrev bytes_out : List (List ℕ)
   bytes_out = frames_of o.mtu d.transfer.transfer_id.0 d.payload
 
@@ -62,7 +60,7 @@ module _ (d : SendDone) (o : Outgoing) (goes : judged_of d ≡ Goes o) where
   stands_together : Ordered (contents d.queue d.places)
       → (front : List Frame) × (back : List Frame) × (contents d.sent.queue d.after ≡ front ++ (frames_out d o ++ back))
   stands_together ordered =
-      let queued = d.promise.queued ∙ ap (λ (j : Judged). queued_after j d.transfer d.payload (contents d.queue d.places)) goes in
+      let queued = d.promise.queued ∙ ap (λ (j : Result Outgoing Refusal). queued_after j d.transfer d.payload (contents d.queue d.places)) goes in
       let c : CutAt o.id.0 (contents d.queue d.places) = cut_at o.id.0 (contents d.queue d.places) ordered in
       (c.front, c.back, queued ∙ ap (all_pushed marks_out bytes_out) c.whole ∙ together marks_out bytes_out c.front c.back c.low c.high)
 
@@ -86,7 +84,7 @@ record PopsCut (places : List (List ℕ)) (rs : List Popped) (xs ys : List Frame
   before : List Popped
   behind : List Popped
   whole : rs ≡ before ++ behind
-  handed : shown_by before ≡ map some xs
+  handed : shown_by before ≡ map Some xs
   queue : ArrayQueue
   left : contents queue places ≡ ys
   run : Run places queue behind
@@ -109,17 +107,17 @@ pops_cut {places} {q} (next {r = r} p run) (x ∷ xs) ys e l =
     }
 
 -- pops that showed these frames handed them out
-shown_handed : (rs : List Popped) (fs : List Frame) → shown_by rs ≡ map some fs → handed_out rs ≡ fs
+shown_handed : (rs : List Popped) (fs : List Frame) → shown_by rs ≡ map Some fs → handed_out rs ≡ fs
 shown_handed [] [] e = refl
 shown_handed [] (f ∷ fs) e = let z : ◌≡◌ {A = ℕ} 0 1 = cc in absurd (omega arith)
 shown_handed (r ∷ rs) [] e = let z : ◌≡◌ {A = ℕ} 0 1 = cc in absurd (omega arith)
 shown_handed (r ∷ rs) (f ∷ fs) e =
-    let h : shown r.held ≡ some f = cc in
-    let t : shown_by rs ≡ map some fs = cc in
+    let h : shown r.held ≡ Some f = cc in
+    let t : shown_by rs ≡ map Some fs = cc in
     ap₂ with_shown h (shown_handed rs fs t)
 
-shown_count : (rs : List Popped) (fs : List Frame) → shown_by rs ≡ map some fs → length rs ≡ length fs
-shown_count rs fs e = sym (length-map rs (λ (r : Popped). shown r.held)) ∙ ap length e ∙ length-map fs some
+shown_count : (rs : List Popped) (fs : List Frame) → shown_by rs ≡ map Some fs → length rs ≡ length fs
+shown_count rs fs e = sym (length-map rs (λ (r : Popped). shown r.held)) ∙ ap length e ∙ length-map fs Some
 
 -- ---- the statement
 

@@ -1,11 +1,13 @@
 -- No second outcome. Most promises are `r ≡ ..`, an equation of the whole result: two results that meet it are one. Here are those that have another form.
+use Rattle.std.specs.Prelude.{Result}
+use Rattle.rules.specs.declared.send.Outgoing.{Outgoing}
+use Rattle.rules.specs.declared.refusal.Refusal.{Refusal}
 use mathlib.Core.Path.{◌≡◌, sym, ap, ap₂, ◌∙◌}
 use mathlib.Core.List.{List}
 use Prim.Native.Nat.{ℕ}
 use Rattle.blocks.specs.Laid.{Copied}
 use Rattle.rules.specs.declared.receive.Received.{Received}
 use Rattle.rules.specs.declared.send.Transfer.{Transfer}
-use Rattle.rules.specs.declared.send.Judged.{Judged}
 use Rattle.rules.specs.declared.subscription.Settings.{Settings}
 use Rattle.rules.specs.Frames.{Frame}
 use Rattle.rules.specs.Sending.{judged, granted, answer, queued_after, counted}
@@ -27,7 +29,7 @@ pub one_copy : {s d after other : List ℕ} {n k : ℕ} → Copied s d n after �
 one_copy p q = (one_outcome p.counted q.counted, one_outcome p.copied q.copied)
 
 -- `Subscription::accept`: answer, words and store
-pub one_acceptance : (s : Settings) (words : List (List ℕ)) (store : List ℕ) (f : Frame) (q r : Received) (w v : List (List ℕ)) (t u : List ℕ)
+pub one_acceptance : (s : Settings) (words : List (List ℕ)) (store : List ℕ) (f : Frame) (q r : Result Received Refusal) (w v : List (List ℕ)) (t u : List ℕ)
     → closes (answer_of q) w t ≡ accepted s words store f → closes (answer_of r) v u ≡ accepted s words store f → (q ≡ r) × (w ≡ v) × (t ≡ u)
 one_acceptance s words store f q r w v t u p o = no_second_closing q r w v t u (one_outcome p o)
 
@@ -38,9 +40,9 @@ module _ {t : CanTransmitter} {q r : ArrayQueue} {a b : List (List ℕ)} (w : Al
   one_send p o =
       let j : verdict t q a transfer payload ≡ verdict t r b transfer payload = ap (λ (n : ℕ). granted n (judged t.mtu transfer payload)) w.left in (
         p.answered ∙ ap answer j ∙ sym o.answered,
-        p.counts ∙ ap (λ (k : Judged). with_counts t (counted k (counts_of t))) j ∙ sym o.counts,
+        p.counts ∙ ap (λ (k : Result Outgoing Refusal). with_counts t (counted k (counts_of t))) j ∙ sym o.counts,
         record {
-          queued = p.queued ∙ ap₂ (λ (k : Judged) (fs : List Frame). queued_after k transfer payload fs) j w.queued ∙ sym o.queued;
+          queued = p.queued ∙ ap₂ (λ (k : Result Outgoing Refusal) (fs : List Frame). queued_after k transfer payload fs) j w.queued ∙ sym o.queued;
           left = p.left ∙ ap₂ free_after j w.left ∙ sym o.left;
           capacity = p.capacity ∙ w.capacity ∙ sym o.capacity;
         },

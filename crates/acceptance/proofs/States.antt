@@ -1,4 +1,7 @@
 -- What making gives and every call keeps: of the queue by its promises and the book's laws of order, of the tracker by its row, of the receiver by the tie.
+use Rattle.std.specs.Prelude.{Option, is_some, Err, Ok, Result}
+use Rattle.rules.specs.declared.send.Outgoing.{Outgoing}
+use Rattle.rules.specs.declared.refusal.Refusal.{Refusal}
 use mathlib.Core.Path.{◌≡◌, refl, sym, ap, subst, ◌∙◌}
 use mathlib.Core.Bool.{Bool, cond}
 use mathlib.Core.List.{List, [], ◌∷◌}
@@ -10,13 +13,8 @@ use Rattle.laws.specs.Digits.{value_of}
 use Rattle.laws.proofs.Digits.{length_digits, are_digits}
 use Rattle.rules.specs.declared.frame.Marks.{Marks}
 use Rattle.rules.specs.declared.slots.Slot.{Slot}
-use Rattle.rules.specs.declared.placing.Placing.{Placing}
-use Rattle.rules.specs.declared.placing.Placing.TheVariants.{Placed, Refused}
 use Rattle.rules.specs.declared.send.Transfer.{Transfer}
-use Rattle.rules.specs.declared.send.Judged.{Judged}
-use Rattle.rules.specs.declared.send.Judged.TheVariants.{Goes, Refused as NotGoing}
 use Rattle.rules.specs.declared.subscription.Settings.{Settings}
-use Rattle.rules.specs.declared.subscription.Subscribing.TheVariants.{Made}
 use Rattle.rules.specs.Limits.{nodes, transfer_ids, greatest_capacity}
 use Rattle.rules.specs.Frames.{Frame}
 use Rattle.rules.specs.Queue.{Ordered, rest, first, placed, after}
@@ -46,7 +44,7 @@ use Rattle.rx.specs.Accept.{words_made}
 use Rattle.rx.proofs.Tied.{slot_viewed, words_length, made_fresh}
 use Rattle.acceptance.specs.Runs.{Lent, called, left_by, slot_in}
 use Rattle.acceptance.specs.States.{QueueState, TrackerState, ReceiverState}
-use Rattle.acceptance.proofs.Granted.{many, room}
+use Rattle.rules.proofs.Granted.{many, room}
 use Rattle.acceptance.proofs.Runs.{book_of, call_tied, slot_tied}
 
 -- ---- the queue
@@ -64,19 +62,19 @@ module _ {q : ArrayQueue} {a : List (List ℕ)} (s : QueueState q a) where
       → {f : Frame} {r : Pushed} {a' : List (List ℕ)} → Places put q a f r a' → QueueState r.queue a'
   places_kept {put} ord len {f} {r} {a'} p = go r.answer p.answered p.queued p.left
     where
-      go : (t : Placing) → t ≡ placed (free q a) f → contents r.queue a' ≡ after t (put f (contents q a)) (contents q a)
+      go : (t : Result (Unit {0}) Refusal) → t ≡ placed (free q a) f → contents r.queue a' ≡ after t (put f (contents q a)) (contents q a)
           → free r.queue a' ≡ after t (free q a - 1) (free q a) → QueueState r.queue a'
-      go Placed e c l = record {
+      go (Ok _) e c l = record {
         ordered = subst Ordered (sym c) (ord f (contents q a) s.ordered);
         filled = omega (arith, ap length c, len f (contents q a), l, (placed_fits (free q a) f (sym e)).spare, s.filled, p.capacity);
       }
-      go (Refused y) e c l = record { ordered = subst Ordered (sym c) s.ordered; filled = omega (arith, ap length c, l, s.filled, p.capacity) }
+      go (Err y) e c l = record { ordered = subst Ordered (sym c) s.ordered; filled = omega (arith, ap length c, l, s.filled, p.capacity) }
 
   pops_kept : {r : Popped} → Pops q a r → QueueState r.queue a
   pops_kept {r} p = go (contents q a) refl p.queued
     where
-      found : (fs : List Frame) → contents q a ≡ fs → r.held.found ≡ (held_of (first fs)).found
-      found fs e = ap (λ (h : Held). h.found) (p.answered ∙ ap (λ (l : List Frame). held_of (first l)) e)
+      found : (fs : List Frame) → contents q a ≡ fs → is_some r.held ≡ is_some (held_of (first fs))
+      found fs e = ap (λ (h : Option Held). is_some h) (p.answered ∙ ap (λ (l : List Frame). held_of (first l)) e)
 
       go : (fs : List Frame) → contents q a ≡ fs → contents r.queue a ≡ rest (contents q a) → QueueState r.queue a
       go [] e c =
@@ -104,20 +102,20 @@ module _ {q : ArrayQueue} {a : List (List ℕ)} (s : QueueState q a) where
       → Sends (verdict t q a transfer payload) t q a transfer payload r a' → QueueState r.queue a'
   send_kept {t} {transfer} {payload} {r} {a'} p = go (verdict t q a transfer payload) refl p.queued p.left
     where
-      go : (j : Judged) → verdict t q a transfer payload ≡ j → contents r.queue a' ≡ queued_after (verdict t q a transfer payload) transfer payload (contents q a)
+      go : (j : Result Outgoing Refusal) → verdict t q a transfer payload ≡ j → contents r.queue a' ≡ queued_after (verdict t q a transfer payload) transfer payload (contents q a)
           → free r.queue a' ≡ free_after (verdict t q a transfer payload) (free q a) → QueueState r.queue a'
-      go (Goes o) e c l =
+      go (Ok o) e c l =
           let marks : Marks = marks_of transfer o.id in
           let fs : List (List ℕ) = frames_of o.mtu transfer.transfer_id.0 payload in
-          let d : contents r.queue a' ≡ all_pushed marks fs (contents q a) = c ∙ ap (λ (j : Judged). queued_after j transfer payload (contents q a)) e in
-          let k : free r.queue a' ≡ free q a - o.stats.frames = l ∙ ap (λ (j : Judged). free_after j (free q a)) e in
+          let d : contents r.queue a' ≡ all_pushed marks fs (contents q a) = c ∙ ap (λ (j : Result Outgoing Refusal). queued_after j transfer payload (contents q a)) e in
+          let k : free r.queue a' ≡ free q a - o.stats.frames = l ∙ ap (λ (j : Result Outgoing Refusal). free_after j (free q a)) e in
           record {
             ordered = subst Ordered (sym d) (all_ordered marks fs (contents q a) s.ordered);
             filled = omega (arith, ap length d, all_length marks fs (contents q a), k, many (free q a) t.mtu transfer payload o e, room (free q a) t.mtu transfer payload o e, s.filled, p.capacity);
           }
-      go (NotGoing y) e c l =
-          let d : contents r.queue a' ≡ contents q a = c ∙ ap (λ (j : Judged). queued_after j transfer payload (contents q a)) e in
-          let k : free r.queue a' ≡ free q a = l ∙ ap (λ (j : Judged). free_after j (free q a)) e in
+      go (Err y) e c l =
+          let d : contents r.queue a' ≡ contents q a = c ∙ ap (λ (j : Result Outgoing Refusal). queued_after j transfer payload (contents q a)) e in
+          let k : free r.queue a' ≡ free q a = l ∙ ap (λ (j : Result Outgoing Refusal). free_after j (free q a)) e in
           record { ordered = subst Ordered (sym d) s.ordered; filled = omega (arith, ap length d, k, s.filled, p.capacity) }
 
 -- ---- the tracker
@@ -134,9 +132,9 @@ tracker_any t = record {
 
 -- a subscription that was made, with a store of document 01's size
 pub receiver_made : (s : Settings) (words : List (List ℕ)) (store : List ℕ) → nodes * s.extent ≤ length store
-    → ReceiverState s (record { words = words_made (Made s) words; store = store })
+    → ReceiverState s (record { words = words_made (Ok s) words; store = store })
 receiver_made s words store h =
-    let m : Lent = record { words = words_made (Made s) words; store = store } in
+    let m : Lent = record { words = words_made (Ok s) words; store = store } in
     record {
       many = length-replicate nodes (words_of fresh_slot);
       small = λ n l. subst (λ (x : Slot). x.expected.0 < transfer_ids) (fresh_slot_lem m n l (made_fresh s words store)) (lit< tt);

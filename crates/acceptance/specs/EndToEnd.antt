@@ -1,13 +1,9 @@
 -- END TO END: one scan in, one scan out. What a send put into the queue, popped in queue order and fed to a receiver on the same port with any arrival stamps, is
 -- delivered once, with payload and padding cut to the extent.
-use Rattle.std.specs.Prelude.{◌≡◌, true, List, [], ◌∷◌, ◌++◌, map, ℕ, suc, ◌≤◌, length}
-use Rattle.std.proofs.Math.Option.{Option, none, some}
-use Rattle.rules.specs.declared.header.Source.TheVariants.{Node}
+use Rattle.std.specs.Prelude.{◌≡◌, true, List, [], ◌∷◌, ◌++◌, map, ℕ, suc, ◌≤◌, length, Ok, Result, Some, Option, None}
+use Rattle.rules.specs.declared.refusal.Refusal.{Refusal}
 use Rattle.rules.specs.declared.send.Transfer.{Transfer}
 use Rattle.rules.specs.declared.send.Outgoing.{Outgoing}
-use Rattle.rules.specs.declared.send.Judged.{Judged}
-use Rattle.rules.specs.declared.send.Judged.TheVariants.{Goes}
-use Rattle.rules.specs.declared.send.Sending.TheVariants.{Done}
 use Rattle.rules.specs.declared.subscription.Settings.{Settings}
 use Rattle.rules.specs.Plan.{frames}
 use Rattle.rules.specs.Transfer.{frames_of}
@@ -46,15 +42,15 @@ pub record SendDone : Type 0 where
   pub sent : Sent
   pub after : List (List ℕ)
   pub promise : Sends (verdict transmitter queue places transfer payload) transmitter queue places transfer payload sent after
-  pub done : sent.answer ≡ Done
+  pub done : sent.answer ≡ Ok tt
 
 -- it is from node n, for this subscription
 pub record ForUs (s : Settings) (n : ℕ) (d : SendDone) : Type 0 where
-  pub source : source_in d.transfer.header ≡ Node record { 0 = n }
+  pub source : source_in d.transfer.header ≡ Some record { 0 = n }
   pub wanted : wants s.port d.transfer.header ≡ true
 
 -- how the rules judge the transfer
-abbrev pub judged_of : SendDone → Judged
+abbrev pub judged_of : SendDone → Result Outgoing Refusal
 judged_of d = verdict d.transmitter d.queue d.places d.transfer d.payload
 
 -- the frames of the transfer, gone out so
@@ -75,8 +71,8 @@ scan_of d o at = record {
 
 -- the frames that pops handed out, in their order; a pop of an empty queue hands out none
 abbrev pub with_shown : Option Frame → List Frame → List Frame
-with_shown none fs = fs
-with_shown (some f) fs = f ∷ fs
+with_shown None fs = fs
+with_shown (Some f) fs = f ∷ fs
 
 abbrev pub handed_out : List Popped → List Frame
 handed_out [] = []
@@ -86,7 +82,7 @@ handed_out (r ∷ rs) = with_shown (shown r.held) (handed_out rs)
 pub record HandedOver (s : Settings) (m : Lent) (n : ℕ) (d : SendDone) (rs : List Popped) : Type 0 where
   -- the transfer went out at this MTU and under this CAN ID
   pub out : Outgoing
-  pub goes : judged_of d ≡ Goes out
+  pub goes : judged_of d ≡ Ok out
   -- the pops that handed out its frames stand together, in the frames' order and as many as the plan says
   pub front : List Popped
   pub mid : List Popped

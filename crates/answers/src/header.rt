@@ -1,21 +1,21 @@
 // Headers as words: the kind, the priority, the source and the destination in four bytes, and the port in two.
-use rules::header::{Header, MessageHeader, ServiceHeader, Source};
+use rules::header::{Header, MessageHeader, ServiceHeader};
 use rules::types::{CanNodeId, Priority, ServiceId, SubjectId};
 
 // 255 stands for no node.
 const NO_NODE: u8 = 255;
 
-fn source(node: u8) -> Source {
+fn source(node: u8) -> Option<CanNodeId> {
     if node == NO_NODE {
-        return Source::Anonymous;
+        return None;
     }
-    Source::Node(CanNodeId(node))
+    Some(CanNodeId(node))
 }
 
-fn source_number(source: Source) -> u8 {
+fn source_number(source: Option<CanNodeId>) -> u8 {
     match source {
-        Source::Node(node) => node.0,
-        Source::Anonymous => NO_NODE,
+        Some(node) => node.0,
+        None => NO_NODE,
     }
 }
 

@@ -1,7 +1,8 @@
 // The queue and the sender above it.
 use crate::record::{Answer, Record};
 use crate::{header, payload};
-use queue::{ArrayQueue, Held, MadeQueue, Place, Pushed};
+use queue::{ArrayQueue, Held, Place, Pushed};
+use rules::frame::Marks;
 use rules::send::Transfer;
 use rules::types::CanTransferId;
 use tx::CanTransmitter;
@@ -29,7 +30,7 @@ impl Line {
 
     pub fn renew(&mut self, record: &Record) -> bool {
         let [capacity, mtu, ..] = record.words;
-        let MadeQueue::Made(queue) = ArrayQueue::new(capacity as usize) else {
+        let Ok(queue) = ArrayQueue::new(capacity as usize) else {
             return false;
         };
         self.queue = queue;
@@ -118,20 +119,24 @@ fn transfer(record: &Record) -> Transfer {
 }
 
 // Whether a frame that was shown is the record's; none is all zeros.
-fn is_shown(held: Held, record: &Record, queued: usize) -> bool {
-    let answer = if held.found {
+fn is_shown(held: Option<Held>, record: &Record, queued: usize) -> bool {
+    let none = Held {
+        marks: Marks {
+            stamp: 0,
+            id: 0,
+            loopback: false,
+        },
+        length: 0,
+        bytes: [0; 64],
+    };
+    let answer = if held.is_some() {
         Answer::Done
     } else {
         Answer::Nothing
     };
-    record.tells_queued(answer, queued) && is_frame(held, record)
+    record.tells_queued(answer, queued) && is_frame(held.unwrap_or(none), record)
 }
 
 fn is_frame(held: Held, record: &Record) -> bool {
-    let wanted = record.marks();
-    held.marks.stamp == wanted.stamp
-        && held.marks.id == wanted.id
-        && held.marks.loopback == wanted.loopback
-        && held.length == record.length
-        && held.bytes == record.data
+    held.marks == record.marks() && held.length == record.length && held.bytes == record.data
 }

@@ -2,9 +2,10 @@
 use crate::record::{Answer, Record};
 use crate::{header, payload};
 use rules::receive::{Delivery, Received};
+use rules::refusal::Refusal;
 use rules::subscription::{Port, ServicePort, Settings};
 use rules::types::{CanNodeId, ServiceId, SubjectId};
-use rx::subscription::{Subscribed, Subscription};
+use rx::subscription::Subscription;
 use slots::Slots;
 
 // A subscription, and the slots and the store that it is lent with each call: 1,024 bytes for each of 128 sources are enough for any extent. A method answers
@@ -34,11 +35,11 @@ impl Listener {
     pub fn subscribe(&mut self, record: &Record) -> bool {
         let [timeout, word, extent, ..] = record.words;
         match Subscription::new(port(word), timeout, extent as usize, &mut self.slots) {
-            Subscribed::Made(subscription) => {
+            Ok(subscription) => {
                 self.subscription = subscription;
                 record.tells(Answer::Done)
             }
-            Subscribed::Refused(_) => false,
+            Err(_) => false,
         }
     }
 
@@ -66,14 +67,14 @@ fn port(word: u32) -> Port {
     }
 }
 
-fn is_answer(answer: Received, bytes: &[u8], record: &Record) -> bool {
+fn is_answer(answer: Result<Received, Refusal>, bytes: &[u8], record: &Record) -> bool {
     match answer {
-        Received::Delivered(delivery) => {
+        Ok(Received::Delivered(delivery)) => {
             record.tells(Answer::Delivered) && is_delivered(delivery, bytes, record)
         }
-        Received::Nothing => record.tells(Answer::Nothing),
-        Received::NotOurs => record.tells(Answer::NotOurs),
-        Received::Refused(refusal) => record.tells(Answer::Refused(refusal.number())),
+        Ok(Received::Nothing) => record.tells(Answer::Nothing),
+        Ok(Received::NotOurs) => record.tells(Answer::NotOurs),
+        Err(refusal) => record.tells(Answer::Refused(refusal.number())),
     }
 }
 

@@ -66,7 +66,7 @@ fn replay_all(list: &mut impl Read) -> io::Result<Tally> {
     let mut tally = Tally::new();
     for _ in 0..record::count(list)? {
         let record = Record::next(list)?;
-        tally.count(record.call, desk.replay(&record));
+        tally.count(record.row, desk.replay(&record));
     }
     Ok(tally)
 }

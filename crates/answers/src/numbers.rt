@@ -1,19 +1,14 @@
 // Plans and the tracker.
 use crate::record::{Answer, Record};
-use rules::data::{Mtu, TriedMtu};
-use rules::stats::{FrameStats, Planned};
-use rules::types::{CanNodeId, CanTransferId, TriedCanTransferId};
+use rules::data::Mtu;
+use rules::stats::FrameStats;
+use rules::types::{CanNodeId, CanTransferId};
 use tracker::CanTransferIdTracker;
 
 // The plan of a payload, if there is one.
 fn plan(length: usize, mtu: usize) -> Option<FrameStats> {
-    let TriedMtu::Valid(mtu) = Mtu::try_from(mtu) else {
-        return None;
-    };
-    match wire::calculate_frame_stats(length, mtu) {
-        Planned::Stats(stats) => Some(stats),
-        Planned::Refused(_) => None,
-    }
+    let mtu = Mtu::try_from(mtu).ok()?;
+    wire::calculate_frame_stats(length, mtu).ok()
 }
 
 pub(crate) fn is_plan(record: &Record) -> bool {
@@ -38,18 +33,18 @@ impl Numbers {
     }
 
     pub fn renew(&mut self, record: &Record) -> bool {
-        *self = Numbers::new();
-        record.tells(Answer::Done)
+        let is_done = record.tells(Answer::Done);
+        if is_done {
+            *self = Numbers::new();
+        }
+        is_done
     }
 
     // The number that the tracker gives a destination, if it gives one.
     fn next(&mut self, destination: CanNodeId) -> Option<CanTransferId> {
         let asked = self.tracker.next_transfer_id(destination);
         self.tracker = asked.tracker;
-        match asked.answer {
-            TriedCanTransferId::Valid(id) => Some(id),
-            TriedCanTransferId::Refused(_) => None,
-        }
+        asked.answer.ok()
     }
 
     pub fn is_next(&mut self, record: &Record) -> bool {

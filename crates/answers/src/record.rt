@@ -1,8 +1,7 @@
 // The records of the list, read one by one from standard input. Their format stands at the head of oracle/compare/src/answers.rs.
 use crate::call::Call;
 use rules::frame::Marks;
-use rules::placing::Placing;
-use rules::send::Sending;
+use rules::refusal::Refusal;
 use std::io;
 use std::io::{ErrorKind, Read};
 
@@ -30,20 +29,11 @@ impl Answer {
     }
 }
 
-impl From<Placing> for Answer {
-    fn from(answer: Placing) -> Self {
+impl From<Result<(), Refusal>> for Answer {
+    fn from(answer: Result<(), Refusal>) -> Self {
         match answer {
-            Placing::Placed => Answer::Done,
-            Placing::Refused(refusal) => Answer::Refused(refusal.number()),
-        }
-    }
-}
-
-impl From<Sending> for Answer {
-    fn from(answer: Sending) -> Self {
-        match answer {
-            Sending::Done => Answer::Done,
-            Sending::Refused(refusal) => Answer::Refused(refusal.number()),
+            Ok(()) => Answer::Done,
+            Err(refusal) => Answer::Refused(refusal.number()),
         }
     }
 }
@@ -53,6 +43,8 @@ impl From<Sending> for Answer {
 pub(crate) struct Record {
     // none where the list has ended
     pub call: Option<Call>,
+    // the call in whose row the answer counts: numbers come round at sixteen there
+    pub row: Option<Call>,
     answer: Option<Answer>,
     pub flag: bool,
     pub words: [u32; 7],
@@ -73,6 +65,7 @@ impl Record {
         let length = u16::from_le_bytes([head[36], head[37]]) as usize;
         Ok(Record {
             call: Call::try_from(head[0]).ok(),
+            row: Call::try_from(head[0] % 16).ok(),
             answer: Answer::read(head[1], head[2]),
             flag: head[3] == 1,
             words,

@@ -1,5 +1,7 @@
 -- Nothing is lost at the doors: what is told of a header or of a frame's marks is read back as it was, and the span that a door tells has the bytes that the answer
 -- shows.
+use Rattle.std.specs.Prelude.{None, Option, Some}
+use Rattle.rules.specs.declared.types.CanNodeId.{CanNodeId}
 use mathlib.Core.Path.{◌≡◌, refl, sym, ap}
 use mathlib.Core.Bool.{Bool, true, false, cond}
 use mathlib.Core.List.{List}
@@ -12,8 +14,6 @@ use Rattle.rules.specs.CanId.{bit}
 use Rattle.rules.specs.Limits.{nodes}
 use Rattle.rules.specs.Answers.{Answer, delivers, nothing, not_ours, refuses, leading, part_shown, shown}
 use Rattle.rules.specs.declared.frame.Marks.{Marks}
-use Rattle.rules.specs.declared.header.Source.{Source}
-use Rattle.rules.specs.declared.header.Source.TheVariants.{Node, Anonymous}
 use Rattle.rules.specs.declared.header.Header.{Header}
 use Rattle.rules.specs.declared.header.Header.TheVariants.{Message, Request, Response}
 use Rattle.rules.specs.declared.receive.Part.{Part}
@@ -33,13 +33,13 @@ pub marks_back : (m : Marks) → marks_from (marks_told m) ≡ m
 marks_back m = ap (λ (b : Bool). record { stamp = m.stamp; id = m.id; loopback = b }) (yes_bit m.loopback)
 
 -- a source that is one of the 128 nodes, or none
-abbrev pub IsSource : Source → Type 0
-IsSource (Node n) = n.0 < nodes
-IsSource Anonymous = Unit {0}
+abbrev pub IsSource : Option CanNodeId → Type 0
+IsSource (Some n) = n.0 < nodes
+IsSource None = Unit {0}
 
-source_back : (s : Source) → IsSource s → source_from (node_told s) ≡ s
-source_back Anonymous h = refl
-source_back (Node n) h =
+source_back : (s : Option CanNodeId) → IsSource s → source_from (node_told s) ≡ s
+source_back None h = refl
+source_back (Some n) h =
     let other : n.0 ≡ 255 → ⊥ = λ e. omega arith in
     rw (ne_eqb n.0 255 other) refl
 

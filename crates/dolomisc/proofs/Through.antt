@@ -1,4 +1,6 @@
 -- What a function promises of states, a door promises of the words that they lie in.
+use Rattle.std.specs.Prelude.{Result}
+use Rattle.rules.specs.declared.refusal.Refusal.{Refusal}
 use mathlib.Core.Path.{◌≡◌, sym, ap, ◌∙◌, subst}
 use mathlib.Core.List.{List}
 use Prim.Native.Nat.{ℕ}
@@ -22,7 +24,7 @@ use Rattle.dolomisc.specs.declared.queueing.Frame.{Frame as FlatFrame}
 use Rattle.dolomisc.specs.declared.sending.FlatTransfer.{FlatTransfer}
 use Rattle.dolomisc.specs.declared.receiving.FlatSubscription.{FlatSubscription}
 use Rattle.dolomisc.specs.declared.receiving.FlatReceived.{FlatReceived}
-use Rattle.dolomisc.specs.Flat.{placing_told, sending_told, marks_from, port_from}
+use Rattle.dolomisc.specs.Flat.{told, marks_from, port_from}
 use Rattle.dolomisc.specs.States.{queue_in, queue_words, transmitter_in, transmitter_words}
 use Rattle.dolomisc.specs.Doors.{held_told, transfer_from, verdict_through, PlacedThrough, PoppedThrough, SentThrough}
 use Rattle.dolomisc.specs.Received.{settings_from, received_told, receives, received_of}
@@ -30,14 +32,14 @@ use Rattle.dolomisc.specs.Received.{settings_from, received_told, receives, rece
 module _ (words : List ℕ) (places : List (List ℕ)) (q : ArrayQueue) (same : q ≡ queue_in words) where
   -- a frame that was to be placed
   pub placed_through : (put : Frame → List Frame → List Frame) (flat : FlatMarks) (m : Marks) (bytes : List ℕ) (r : Pushed) (after : List ℕ) (places' : List (List ℕ)) (a : Answer)
-      → m ≡ marks_from flat → Places put q places (frame m bytes) r places' → after ≡ queue_words r.queue → a ≡ placing_told r.answer
+      → m ≡ marks_from flat → Places put q places (frame m bytes) r places' → after ≡ queue_words r.queue → a ≡ told r.answer
       → PlacedThrough put words places (frame (marks_from flat) bytes) a after places'
-  placed_through put flat m bytes r after places' a marks promise left told =
+  placed_through put flat m bytes r after places' a marks promise left tells =
       let f : Frame = frame (marks_from flat) bytes in
       let p : Places put (queue_in words) places f r places' =
       subst (λ (x : Marks). Places put (queue_in words) places (frame x bytes) r places') marks (subst (λ (x : ArrayQueue). Places put x places (frame m bytes) r places') same promise) in
       record {
-        told = told ∙ ap placing_told p.answered;
+        told = tells ∙ ap told p.answered;
         left = subst (λ (x : Pushed). Places put (queue_in words) places f x places')
             (ap (λ (x : List ℕ). record { queue = queue_in x; answer = r.answer }) (sym left) ∙ ap (λ x. record { queue = queue_in after; answer = x }) p.answered) p;
       }
@@ -45,10 +47,10 @@ module _ (words : List ℕ) (places : List (List ℕ)) (q : ArrayQueue) (same : 
   -- a frame that was popped
   pub popped_through : (r : Popped) (after : List ℕ) (a : FlatFrame) → Pops q places r → after ≡ queue_words r.queue → a ≡ held_told r.held
       → PoppedThrough words places a after
-  popped_through r after a promise left told =
+  popped_through r after a promise left tells =
       let p : Pops (queue_in words) places r = subst (λ (x : ArrayQueue). Pops x places r) same promise in
       record {
-        told = told ∙ ap held_told p.answered;
+        told = tells ∙ ap held_told p.answered;
         left = subst (λ (x : Popped). Pops (queue_in words) places x)
             (ap (λ (x : List ℕ). record { queue = queue_in x; held = r.held }) (sym left) ∙ ap (λ x. record { queue = queue_in after; held = x }) p.answered) p;
       }
@@ -56,14 +58,14 @@ module _ (words : List ℕ) (places : List (List ℕ)) (q : ArrayQueue) (same : 
   -- a transfer that was sent
   pub sent_through : (tw : List ℕ) (t : CanTransmitter) (flat : FlatTransfer) (transfer : Transfer) (payload : List ℕ) (r : Sent) (tw' qw' : List ℕ) (places' : List (List ℕ)) (a : Answer)
       → t ≡ transmitter_in tw → transfer ≡ transfer_from flat → Sends (verdict t q places transfer payload) t q places transfer payload r places'
-      → tw' ≡ transmitter_words r.transmitter → qw' ≡ queue_words r.queue → a ≡ sending_told r.answer
+      → tw' ≡ transmitter_words r.transmitter → qw' ≡ queue_words r.queue → a ≡ told r.answer
       → SentThrough (verdict_through tw words places flat payload) tw words places flat payload a tw' qw' places'
-  sent_through tw t flat transfer payload r tw' qw' places' a same_t sameF promise leftT leftQ told =
+  sent_through tw t flat transfer payload r tw' qw' places' a same_t sameF promise leftT leftQ tells =
       let S : CanTransmitter → ArrayQueue → Transfer → Type 0 = λ x y z. Sends (verdict x y places z payload) x y places z payload r places' in
       let p : S (transmitter_in tw) (queue_in words) (transfer_from flat) =
       subst (λ z. S (transmitter_in tw) (queue_in words) z) sameF (subst (λ y. S (transmitter_in tw) y transfer) same (subst (λ x. S x q transfer) same_t promise)) in
       record {
-        told = told ∙ ap sending_told p.answered;
+        told = tells ∙ ap told p.answered;
         left = subst (λ (x : Sent). Sends (verdict_through tw words places flat payload) (transmitter_in tw) (queue_in words) places (transfer_from flat) payload x places')
             (ap (λ (x : List ℕ). record { transmitter = transmitter_in x; queue = r.queue; answer = r.answer }) (sym leftT)
             ∙ ap (λ (x : List ℕ). record { transmitter = transmitter_in tw'; queue = queue_in x; answer = r.answer }) (sym leftQ)
@@ -71,7 +73,7 @@ module _ (words : List ℕ) (places : List (List ℕ)) (q : ArrayQueue) (same : 
       }
 
 -- a frame that was received
-pub received_through : (flat : FlatSubscription) (words : List (List ℕ)) (store : List ℕ) (marks : FlatMarks) (bytes : List ℕ) (port : Port) (m : Marks) (r : Received)
+pub received_through : (flat : FlatSubscription) (words : List (List ℕ)) (store : List ℕ) (marks : FlatMarks) (bytes : List ℕ) (port : Port) (m : Marks) (r : Result Received Refusal)
     (words' : List (List ℕ)) (store' : List ℕ) (a : FlatReceived)
     → port ≡ port_from flat.kind flat.port flat.node → m ≡ marks_from marks
     → closes (answer_of r) words' store' ≡ accepted (record { port = port; timeout = flat.timeout; extent = flat.extent }) words store (frame m bytes)

@@ -1,20 +1,18 @@
 -- What the doors of the queue and of sending give, from what the functions behind them answer.
-use Rattle.std.specs.Prelude.{◌≡◌, ℕ, Bool, true, false, List}
+use Rattle.std.specs.Prelude.{◌≡◌, ℕ, List, replicate, Option, Some, None, Err, Ok, Result}
+use Rattle.rules.specs.Limits.{greatest_frame}
+use Rattle.queue.specs.declared.ArrayQueue.{ArrayQueue}
+use Rattle.rules.specs.declared.types.CanTransferId.{CanTransferId}
+use Rattle.rules.specs.declared.stats.FrameStats.{FrameStats}
+use Rattle.rules.specs.declared.data.Mtu.{Mtu}
+use Rattle.rules.specs.declared.send.Outgoing.{Outgoing}
+use Rattle.rules.specs.declared.refusal.Refusal.{Refusal}
 use Rattle.rules.specs.Frames.{Frame}
 use Rattle.rules.specs.Queue.{first, placed}
 use Rattle.rules.specs.Plan.{planned}
 use Rattle.rules.specs.Sending.{answer}
 use Rattle.rules.specs.Refusals.{number_of}
-use Rattle.rules.specs.declared.data.TriedMtu.{TriedMtu}
-use Rattle.rules.specs.declared.data.TriedMtu.TheVariants.{Valid as ValidMtu, Refused as NoMtu}
-use Rattle.rules.specs.declared.stats.Planned.{Planned}
-use Rattle.rules.specs.declared.stats.Planned.TheVariants.{Stats, Refused as NoPlan}
 use Rattle.rules.specs.declared.send.Transfer.{Transfer}
-use Rattle.rules.specs.declared.send.Judged.{Judged}
-use Rattle.rules.specs.declared.types.TriedCanTransferId.{TriedCanTransferId}
-use Rattle.rules.specs.declared.types.TriedCanTransferId.TheVariants.{Valid, Refused as NotGiven}
-use Rattle.queue.specs.declared.MadeQueue.{MadeQueue}
-use Rattle.queue.specs.declared.MadeQueue.TheVariants.{Made, Refused}
 use Rattle.queue.specs.declared.Held.{Held}
 use Rattle.queue.specs.Place.{held_of}
 use Rattle.queue.specs.Queue.{contents, free, Places, Pops}
@@ -24,30 +22,25 @@ use Rattle.dolomisc.specs.declared.queueing.Frame.{Frame as FlatFrame}
 use Rattle.dolomisc.specs.declared.sending.FlatTransfer.{FlatTransfer}
 use Rattle.dolomisc.specs.declared.sending.Given.{Given}
 use Rattle.dolomisc.specs.declared.sending.Plan.{Plan}
-use Rattle.dolomisc.specs.Flat.{did, refused_by, placing_told, sending_told, yes, marks_told, header_from}
+use Rattle.dolomisc.specs.Flat.{told, yes, marks_told, header_from}
 use Rattle.dolomisc.specs.States.{queue_in, queue_words, transmitter_in}
 
 -- ---- the queue
 
-abbrev pub queue_answer : MadeQueue → Answer
-queue_answer (Made q) = did
-queue_answer (Refused r) = refused_by r
-
-abbrev pub queue_made : MadeQueue → List ℕ → List ℕ
-queue_made (Made q) before = queue_words q
-queue_made (Refused r) before = before
+abbrev pub queue_made : Result ArrayQueue Refusal → List ℕ → List ℕ
+queue_made (Ok q) before = queue_words q
+queue_made (Err r) before = before
 
 -- through a door a frame f was to be put among those queued, by the rule `put`: the answer is told, and what is left is as the queue promises
 pub record PlacedThrough (put : Frame → List Frame → List Frame) (words : List ℕ) (places : List (List ℕ)) (f : Frame) (r : Answer) (words' : List ℕ) (places' : List (List ℕ)) : Type 0 where
-  pub told : r ≡ placing_told (placed (free (queue_in words) places) f)
+  pub told : r ≡ told (placed (free (queue_in words) places) f)
   pub left : Places put (queue_in words) places f (record { queue = queue_in words'; answer = placed (free (queue_in words) places) f }) places'
 
-abbrev pub found_told : Bool → ℕ
-found_told true = 0
-found_told false = 2
-
-abbrev pub held_told : Held → FlatFrame
-held_told h = record { length = h.length; marks = marks_told h.marks; what = found_told h.found; bytes = h.bytes }
+-- a frame that was found; of none every field but `what` is zero
+abbrev pub held_told : Option Held → FlatFrame
+held_told (Some h) = record { length = h.length; marks = marks_told h.marks; what = 0; bytes = h.bytes }
+held_told None =
+    record { length = 0; marks = record { stamp = 0; id = 0; loopback = 0 }; what = 2; bytes = replicate greatest_frame 0 }
 
 -- through a door the first frame was popped: it is told, and what is left is as the queue promises
 pub record PoppedThrough (words : List ℕ) (places : List (List ℕ)) (r : FlatFrame) (words' : List ℕ) : Type 0 where
@@ -65,27 +58,27 @@ transfer_from t = record {
 }
 
 -- how a transfer goes out of what the caller keeps, or the first refusal
-abbrev pub verdict_through : List ℕ → List ℕ → List (List ℕ) → FlatTransfer → List ℕ → Judged
+abbrev pub verdict_through : List ℕ → List ℕ → List (List ℕ) → FlatTransfer → List ℕ → Result Outgoing Refusal
 verdict_through t q places transfer payload = verdict (transmitter_in t) (queue_in q) places (transfer_from transfer) payload
 
 -- through a door a transfer was sent, with this verdict j: the answer is told, and what is left is as a send promises
-pub record SentThrough (j : Judged) (t q : List ℕ) (places : List (List ℕ)) (transfer : FlatTransfer) (payload : List ℕ) (r : Answer) (t' q' : List ℕ) (places' : List (List ℕ)) : Type 0 where
-  pub told : r ≡ sending_told (answer j)
+pub record SentThrough (j : Result Outgoing Refusal) (t q : List ℕ) (places : List (List ℕ)) (transfer : FlatTransfer) (payload : List ℕ) (r : Answer) (t' q' : List ℕ) (places' : List (List ℕ)) : Type 0 where
+  pub told : r ≡ told (answer j)
   pub left : Sends j (transmitter_in t) (queue_in q) places (transfer_from transfer) payload
       (record { transmitter = transmitter_in t'; queue = queue_in q'; answer = answer j }) places'
 
-abbrev pub given_told : TriedCanTransferId → Given
-given_told (Valid id) = record { what = 0; refusal = 0; transfer_id = id.0 }
-given_told (NotGiven r) = record { what = 4; refusal = number_of r; transfer_id = 0 }
+abbrev pub given_told : Result CanTransferId Refusal → Given
+given_told (Ok id) = record { what = 0; refusal = 0; transfer_id = id.0 }
+given_told (Err r) = record { what = 4; refusal = number_of r; transfer_id = 0 }
 
 abbrev pub plan_refused : ℕ → Plan
 plan_refused n = record { frames = 0; padding = 0; what = 4; refusal = n }
 
-abbrev pub plan_told : Planned → Plan
-plan_told (Stats s) = record { frames = s.frames; padding = s.last_frame_padding; what = 0; refusal = 0 }
-plan_told (NoPlan r) = plan_refused (number_of r)
+abbrev pub plan_told : Result FrameStats Refusal → Plan
+plan_told (Ok s) = record { frames = s.frames; padding = s.last_frame_padding; what = 0; refusal = 0 }
+plan_told (Err r) = plan_refused (number_of r)
 
 -- the plan for a payload of n bytes
-abbrev pub planned_for : ℕ → TriedMtu → Plan
-planned_for n (ValidMtu u) = plan_told (planned u n)
-planned_for n (NoMtu r) = plan_refused (number_of r)
+abbrev pub planned_for : ℕ → Result Mtu Refusal → Plan
+planned_for n (Ok u) = plan_told (planned u n)
+planned_for n (Err r) = plan_refused (number_of r)

@@ -1,17 +1,12 @@
 -- What goes through the doors in flat numbers, as include/dolomisc.h has them: what happened, headers, and the marks of a frame. A flag is any byte, and 0 alone is
 -- "no". A kind is 0 for a message, 1 for a request and 2 for a response; what is of another kind is for a subject that there is not, so that it is refused by 12
 -- wherever it is judged. 255 stands in the place of a node where there is none.
-use Rattle.std.specs.Prelude.{ℕ, Bool, cond, not, eqb}
+use Rattle.std.specs.Prelude.{ℕ, Bool, cond, not, eqb, Err, None, Ok, Option, Result, Some}
+use Rattle.rules.specs.declared.types.CanNodeId.{CanNodeId}
 use Rattle.rules.specs.CanId.{bit}
 use Rattle.rules.specs.Refusals.{number_of}
 use Rattle.rules.specs.declared.refusal.Refusal.{Refusal}
-use Rattle.rules.specs.declared.placing.Placing.{Placing}
-use Rattle.rules.specs.declared.placing.Placing.TheVariants.{Placed, Refused}
-use Rattle.rules.specs.declared.send.Sending.{Sending}
-use Rattle.rules.specs.declared.send.Sending.TheVariants.{Done, Refused as NotDone}
 use Rattle.rules.specs.declared.frame.Marks.{Marks}
-use Rattle.rules.specs.declared.header.Source.{Source}
-use Rattle.rules.specs.declared.header.Source.TheVariants.{Node, Anonymous}
 use Rattle.rules.specs.declared.header.MessageHeader.{MessageHeader}
 use Rattle.rules.specs.declared.header.ServiceHeader.{ServiceHeader}
 use Rattle.rules.specs.declared.header.Header.{Header}
@@ -31,13 +26,10 @@ did = record { what = 0; refusal = 0 }
 abbrev pub refused_by : Refusal → Answer
 refused_by r = record { what = 4; refusal = number_of r }
 
-abbrev pub placing_told : Placing → Answer
-placing_told Placed = did
-placing_told (Refused r) = refused_by r
-
-abbrev pub sending_told : Sending → Answer
-sending_told Done = did
-sending_told (NotDone r) = refused_by r
+-- whatever was to be done, whether it was
+abbrev pub told : {A : Type 0} → Result A Refusal → Answer
+told (Ok _) = did
+told (Err r) = refused_by r
 
 -- ---- the marks of a frame
 
@@ -53,8 +45,8 @@ marks_told m = record { stamp = m.stamp; id = m.id; loopback = bit m.loopback }
 
 -- ---- what comes in
 
-abbrev pub source_from : ℕ → Source
-source_from n = cond (eqb n 255) Anonymous (Node (record { 0 = n }))
+abbrev pub source_from : ℕ → Option CanNodeId
+source_from n = cond (eqb n 255) None (Some (record { 0 = n }))
 
 abbrev pub message_to : ℕ → FlatHeader → MessageHeader
 message_to subject h = record { priority = record { 0 = h.priority }; subject = record { 0 = subject }; source = source_from h.source }
@@ -87,9 +79,9 @@ port_from kind port node =
 
 -- ---- what goes out
 
-abbrev pub node_told : Source → ℕ
-node_told Anonymous = 255
-node_told (Node n) = n.0
+abbrev pub node_told : Option CanNodeId → ℕ
+node_told None = 255
+node_told (Some n) = n.0
 
 abbrev pub message_told : MessageHeader → FlatHeader
 message_told h = record { port = h.subject.0; kind = 0; priority = h.priority.0; source = node_told h.source; destination = 255 }

@@ -1,5 +1,5 @@
 -- What the doors of receiving give.
-use Rattle.std.specs.Prelude.{ℕ, ◌-◌, cond, List, eqb, leb, take, drop}
+use Rattle.std.specs.Prelude.{ℕ, ◌-◌, cond, List, eqb, leb, take, drop, Err, Ok, Result}
 use Rattle.rules.specs.CanId.{bit}
 use Rattle.rules.specs.Refusals.{number_of}
 use Rattle.rules.specs.Answers.{Answer, delivers, nothing, not_ours, refuses}
@@ -8,8 +8,6 @@ use Rattle.rules.specs.declared.receive.Part.{Part}
 use Rattle.rules.specs.declared.receive.Part.TheVariants.{OfFrame, OfStore}
 use Rattle.rules.specs.declared.receive.Delivery.{Delivery}
 use Rattle.rules.specs.declared.subscription.Settings.{Settings}
-use Rattle.rules.specs.declared.subscription.Subscribing.{Subscribing}
-use Rattle.rules.specs.declared.subscription.Subscribing.TheVariants.{Made, Refused}
 use Rattle.rx.specs.Accept.{Closing}
 use Rattle.dolomisc.specs.declared.receiving.FlatSubscription.{FlatSubscription}
 use Rattle.dolomisc.specs.declared.receiving.FlatSubscribed.{FlatSubscribed}
@@ -27,10 +25,10 @@ abbrev pub not_subscribed : Refusal → FlatSubscribed
 not_subscribed r =
     record { subscription = record { timeout = 0; port = 0; extent = 0; kind = 255; node = 0 }; what = 4; refusal = number_of r }
 
-abbrev pub subscribed_told : ℕ → ℕ → ℕ → Subscribing → FlatSubscribed
-subscribed_told kind port node (Made s) =
+abbrev pub subscribed_told : ℕ → ℕ → ℕ → Result Settings Refusal → FlatSubscribed
+subscribed_told kind port node (Ok s) =
     record { subscription = record { timeout = s.timeout; port = port; extent = s.extent; kind = kind; node = node }; what = 0; refusal = 0 }
-subscribed_told kind port node (Refused r) = not_subscribed r
+subscribed_told kind port node (Err r) = not_subscribed r
 
 -- ---- what a frame is answered
 

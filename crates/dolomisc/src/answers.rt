@@ -1,10 +1,8 @@
 // What a door answers: what happened, and the number of a refusal.
 ghost use Rattle.std.specs.Prelude.{◌≡◌};
-ghost use Rattle.dolomisc.specs.Flat.{did, refused_by, placing_told, sending_told};
+ghost use Rattle.dolomisc.specs.Flat.{told};
 
-use rules::placing::Placing;
 use rules::refusal::Refusal;
-use rules::send::Sending;
 
 // What happened. A refusal's number stands beside it, and is 0 where nothing is refused.
 pub const DONE: u8 = 0;
@@ -24,38 +22,19 @@ pub struct Answer {
     pub refusal: u8,
 }
 
-pub(crate) fn done() -> Answer
-    ensures { result ≡ did }
-{
-    Answer {
-        what: DONE,
-        refusal: 0,
-    }
-}
+impl<T: Drop> From<Result<T, Refusal>> for Answer {
+    ghost from_gives = { λ done answer. answer ≡ told done };
 
-pub(crate) fn refused(refusal: Refusal) -> Answer
-    ensures { result ≡ refused_by refusal }
-{
-    Answer {
-        what: REFUSED,
-        refusal: refusal.number(),
-    }
-}
-
-pub(crate) fn of_placing(placing: Placing) -> Answer
-    ensures { result ≡ placing_told placing }
-{
-    match placing {
-        Placing::Placed => done(),
-        Placing::Refused(refusal) => refused(refusal),
-    }
-}
-
-pub(crate) fn of_sending(sending: Sending) -> Answer
-    ensures { result ≡ sending_told sending }
-{
-    match sending {
-        Sending::Done => done(),
-        Sending::Refused(refusal) => refused(refusal),
+    fn from(done: Result<T, Refusal>) -> Answer {
+        match done {
+            Ok(_) => Answer {
+                what: DONE,
+                refusal: 0,
+            },
+            Err(refusal) => Answer {
+                what: REFUSED,
+                refusal: refusal.number(),
+            },
+        }
     }
 }

@@ -3,7 +3,7 @@ ghost use Rattle.std.specs.Prelude.{◌≡◌};
 ghost use Rattle.dolomisc.specs.Flat.{marks_from, marks_told, source_from, header_from, message_to, service_from, port_from, service_at, node_told, header_told, message_told, service_told};
 
 use rules::frame::Marks;
-use rules::header::{Header, MessageHeader, ServiceHeader, Source};
+use rules::header::{Header, MessageHeader, ServiceHeader};
 use rules::subscription::{Port, ServicePort};
 use rules::types::{CanNodeId, Priority, ServiceId, SubjectId};
 
@@ -38,48 +38,50 @@ pub struct FlatMarks {
     pub loopback: u8,
 }
 
-pub(crate) fn marks_from(flat: FlatMarks) -> Marks
-    ensures { result ≡ marks_from flat }
-{
-    Marks {
-        stamp: flat.stamp,
-        id: flat.id,
-        loopback: flat.loopback != 0,
+impl From<FlatMarks> for Marks {
+    ghost from_gives = { λ flat marks. marks ≡ marks_from flat };
+
+    fn from(flat: FlatMarks) -> Marks {
+        Marks {
+            stamp: flat.stamp,
+            id: flat.id,
+            loopback: flat.loopback != 0,
+        }
     }
 }
 
-pub(crate) fn marks_told(marks: Marks) -> FlatMarks
-    ensures { result ≡ marks_told marks }
-{
-    FlatMarks {
-        stamp: marks.stamp,
-        id: marks.id,
-        loopback: marks.loopback as u8,
+impl From<Marks> for FlatMarks {
+    ghost from_gives = { λ marks flat. flat ≡ marks_told marks };
+
+    fn from(marks: Marks) -> FlatMarks {
+        FlatMarks {
+            stamp: marks.stamp,
+            id: marks.id,
+            loopback: marks.loopback as u8,
+        }
     }
 }
 
-fn source_from(node: u8) -> Source
+fn source_from(node: u8) -> Option<CanNodeId>
     ensures { result ≡ source_from node }
 {
     if node == NO_NODE {
-        return Source::Anonymous;
+        return None;
     }
-    Source::Node(CanNodeId(node))
+    Some(CanNodeId(node))
 }
 
-pub(crate) fn header_from(flat: FlatHeader) -> Header
-    ensures { result ≡ header_from flat }
-{
-    if flat.kind == MESSAGE {
-        return Header::Message(message_to(flat.port, flat));
+impl From<FlatHeader> for Header {
+    ghost from_gives = { λ flat header. header ≡ header_from flat };
+
+    fn from(flat: FlatHeader) -> Header {
+        match flat.kind {
+            MESSAGE => Header::Message(message_to(flat.port, flat)),
+            REQUEST => Header::Request(service_from(flat)),
+            RESPONSE => Header::Response(service_from(flat)),
+            _ => Header::Message(message_to(NO_SUBJECT, flat)),
+        }
     }
-    if flat.kind == REQUEST {
-        return Header::Request(service_from(flat));
-    }
-    if flat.kind == RESPONSE {
-        return Header::Response(service_from(flat));
-    }
-    Header::Message(message_to(NO_SUBJECT, flat))
 }
 
 fn message_to(subject: u16, flat: FlatHeader) -> MessageHeader
@@ -107,16 +109,12 @@ fn service_from(flat: FlatHeader) -> ServiceHeader
 pub(crate) fn port_from(kind: u8, port: u16, node: u8) -> Port
     ensures { result ≡ port_from kind port node }
 {
-    if kind == MESSAGE {
-        return Port::Message(SubjectId(port));
+    match kind {
+        MESSAGE => Port::Message(SubjectId(port)),
+        REQUEST => Port::Request(service_at(port, node)),
+        RESPONSE => Port::Response(service_at(port, node)),
+        _ => Port::Message(SubjectId(NO_SUBJECT)),
     }
-    if kind == REQUEST {
-        return Port::Request(service_at(port, node));
-    }
-    if kind == RESPONSE {
-        return Port::Response(service_at(port, node));
-    }
-    Port::Message(SubjectId(NO_SUBJECT))
 }
 
 fn service_at(port: u16, node: u8) -> ServicePort
@@ -128,36 +126,35 @@ fn service_at(port: u16, node: u8) -> ServicePort
     }
 }
 
-fn node_told(source: Source) -> u8
+fn node_told(source: Option<CanNodeId>) -> u8
     ensures { result ≡ node_told source }
 {
     match source {
-        Source::Anonymous => NO_NODE,
-        Source::Node(node) => node.0,
+        None => NO_NODE,
+        Some(node) => node.0,
     }
 }
 
-pub(crate) fn header_told(header: Header) -> FlatHeader
-    ensures { result ≡ header_told header }
-{
-    match header {
-        Header::Message(message) => message_told(message),
-        Header::Request(request) => service_told(REQUEST, request),
-        Header::Response(response) => service_told(RESPONSE, response),
+impl From<Header> for FlatHeader {
+    ghost from_gives = { λ header flat. flat ≡ header_told header };
+
+    fn from(header: Header) -> FlatHeader {
+        match header {
+            Header::Message(message) => message_told(message),
+            Header::Request(request) => service_told(REQUEST, request),
+            Header::Response(response) => service_told(RESPONSE, response),
+        }
     }
 }
 
 fn message_told(header: MessageHeader) -> FlatHeader
     ensures { result ≡ message_told header }
 {
-    let subject = header.subject;
-    let priority = header.priority;
-    let source = header.source;
     FlatHeader {
-        port: subject.0,
+        port: header.subject.0,
         kind: MESSAGE,
-        priority: priority.0,
-        source: node_told(source),
+        priority: header.priority.0,
+        source: node_told(header.source),
         destination: NO_NODE,
     }
 }
@@ -165,15 +162,11 @@ fn message_told(header: MessageHeader) -> FlatHeader
 fn service_told(kind: u8, header: ServiceHeader) -> FlatHeader
     ensures { result ≡ service_told kind header }
 {
-    let service = header.service;
-    let priority = header.priority;
-    let source = header.source;
-    let destination = header.destination;
     FlatHeader {
-        port: service.0,
+        port: header.service.0,
         kind,
-        priority: priority.0,
-        source: node_told(source),
-        destination: destination.0,
+        priority: header.priority.0,
+        source: node_told(header.source),
+        destination: header.destination.0,
     }
 }

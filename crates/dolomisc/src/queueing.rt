@@ -4,15 +4,16 @@ ghost use Rattle.rules.specs.Frames.{frame};
 ghost use Rattle.rules.specs.Queue.{pushed, returned, first, room_for};
 ghost use Rattle.queue.specs.Place.{held_of};
 ghost use Rattle.queue.specs.Queue.{made, contents, free, capacity_of};
-ghost use Rattle.dolomisc.specs.Flat.{marks_from, placing_told};
+ghost use Rattle.dolomisc.specs.Flat.{marks_from, told};
 ghost use Rattle.dolomisc.specs.States.{queue_in};
-ghost use Rattle.dolomisc.specs.Doors.{queue_answer, queue_made, found_told, held_told, PlacedThrough, PoppedThrough};
+ghost use Rattle.dolomisc.specs.Doors.{queue_made, held_told, PlacedThrough, PoppedThrough};
 
 use crate::answers::Answer;
 use crate::headers::FlatMarks;
 use crate::states::QueueWords;
-use crate::{answers, headers, states};
-use queue::{ArrayQueue, Held, MadeQueue, Place};
+use crate::{answers, states};
+use queue::{ArrayQueue, Held, Place};
+use rules::data::FRAME_CAPACITY;
 
 // A frame that was found, its bytes the first `length`; or none, and then every field but `what` is zero.
 #[repr(C)]
@@ -21,22 +22,20 @@ pub struct Frame {
     pub length: usize,
     pub marks: FlatMarks,
     pub what: u8,
-    pub bytes: [u8; 64],
+    pub bytes: [u8; FRAME_CAPACITY],
 }
 
 // As ArrayQueue::new. After a refusal the queue is as it was.
 #[unsafe(no_mangle)]
 pub extern "C" fn dolomisc_queue_new(queue: &mut QueueWords, capacity: usize) -> Answer
-    ensures value { result ≡ queue_answer (made capacity) }
+    ensures value { result ≡ told (made capacity) }
     ensures queue_after { queue.new ≡ queue_made (made capacity) queue.old }
 {
-    match ArrayQueue::new(capacity) {
-        MadeQueue::Made(fresh) => {
-            *queue = states::queue_words(fresh);
-            answers::done()
-        }
-        MadeQueue::Refused(refusal) => answers::refused(refusal),
+    let made = ArrayQueue::new(capacity);
+    if let Ok(fresh) = made {
+        *queue = states::queue_words(fresh);
     }
+    made.into()
 }
 
 // As ArrayQueue::len.
@@ -73,11 +72,10 @@ pub extern "C" fn dolomisc_queue_try_reserve(
     places: &[Place],
     frames: usize,
 ) -> Answer
-    ensures { result ≡ placing_told (room_for (free (queue_in queue.now) places.now) frames) }
+    ensures { result ≡ told (room_for (free (queue_in queue.now) places.now) frames) }
 {
     let q = states::queue_in(*queue);
-    let answer = q.try_reserve(places, frames);
-    answers::of_placing(answer)
+    q.try_reserve(places, frames).into()
 }
 
 // As ArrayQueue::push_frame.
@@ -91,11 +89,9 @@ pub extern "C" fn dolomisc_queue_push_frame(
     ensures { PlacedThrough pushed queue.old places.old (frame (marks_from marks) bytes.now) result queue.new places.new }
 {
     let q = states::queue_in(*queue);
-    let pushed = q.push_frame(places, headers::marks_from(marks), bytes);
-    let after = pushed.queue;
-    let answer = pushed.answer;
-    *queue = states::queue_words(after);
-    answers::of_placing(answer)
+    let pushed = q.push_frame(places, marks.into(), bytes);
+    *queue = states::queue_words(pushed.queue);
+    pushed.answer.into()
 }
 
 // As ArrayQueue::return_frame.
@@ -109,11 +105,9 @@ pub extern "C" fn dolomisc_queue_return_frame(
     ensures { PlacedThrough returned queue.old places.old (frame (marks_from marks) bytes.now) result queue.new places.new }
 {
     let q = states::queue_in(*queue);
-    let pushed = q.return_frame(places, headers::marks_from(marks), bytes);
-    let returned = pushed.queue;
-    let answer = pushed.answer;
-    *queue = states::queue_words(returned);
-    answers::of_placing(answer)
+    let returned = q.return_frame(places, marks.into(), bytes);
+    *queue = states::queue_words(returned.queue);
+    returned.answer.into()
 }
 
 // As ArrayQueue::peek_frame.
@@ -122,8 +116,7 @@ pub extern "C" fn dolomisc_queue_peek_frame(queue: &QueueWords, places: &[Place]
     ensures { result ≡ held_told (held_of (first (contents (queue_in queue.now) places.now))) }
 {
     let q = states::queue_in(*queue);
-    let held = q.peek_frame(places);
-    held_told(held)
+    q.peek_frame(places).into()
 }
 
 // As ArrayQueue::pop_frame.
@@ -133,31 +126,34 @@ pub extern "C" fn dolomisc_queue_pop_frame(queue: &mut QueueWords, places: &[Pla
 {
     let q = states::queue_in(*queue);
     let popped = q.pop_frame(places);
-    let rest = popped.queue;
-    let held = popped.held;
-    *queue = states::queue_words(rest);
-    held_told(held)
+    *queue = states::queue_words(popped.queue);
+    popped.held.into()
 }
 
-fn found_told(found: bool) -> u8
-    ensures { result ≡ found_told found }
-{
-    if found {
-        return answers::DONE;
-    }
-    answers::NOTHING
-}
+impl From<Option<Held>> for Frame {
+    ghost from_gives = { λ held frame. frame ≡ held_told held };
 
-fn held_told(held: Held) -> Frame
-    ensures { result ≡ held_told held }
-{
-    let marks = headers::marks_told(held.marks);
-    let what = found_told(held.found);
-    let bytes = held.bytes;
-    Frame {
-        length: held.length,
-        marks,
-        what,
-        bytes,
+    fn from(held: Option<Held>) -> Frame {
+        match held {
+            Some(found) => {
+                let bytes = found.bytes;
+                Frame {
+                    length: found.length,
+                    marks: found.marks.into(),
+                    what: answers::DONE,
+                    bytes,
+                }
+            }
+            None => Frame {
+                length: 0,
+                marks: FlatMarks {
+                    stamp: 0,
+                    id: 0,
+                    loopback: 0,
+                },
+                what: answers::NOTHING,
+                bytes: [0; FRAME_CAPACITY],
+            },
+        }
     }
 }

@@ -11,7 +11,7 @@ use crate::{answers, headers};
 use rules::receive::{Delivery, Part, Received};
 use rules::refusal::Refusal;
 use rules::subscription::Settings;
-use rx::subscription::{Subscribed, Subscription};
+use rx::subscription::Subscription;
 use slots::Slots;
 
 // In which memory the bytes of a delivery lie.
@@ -76,7 +76,7 @@ pub extern "C" fn dolomisc_subscription_new(
 {
     let asked = headers::port_from(kind, port, node);
     match Subscription::new(asked, timeout, extent, slots) {
-        Subscribed::Made(made) => {
+        Ok(made) => {
             let settings = made.settings;
             FlatSubscribed {
                 subscription: FlatSubscription {
@@ -90,7 +90,7 @@ pub extern "C" fn dolomisc_subscription_new(
                 refusal: 0,
             }
         }
-        Subscribed::Refused(refusal) => not_subscribed(refusal),
+        Err(refusal) => not_subscribed(refusal),
     }
 }
 
@@ -130,53 +130,54 @@ pub extern "C" fn dolomisc_subscription_accept(
         },
     };
     // Each arm returns by itself: for one answer that is joined from all, the compiler holds a dozen zeros ready on every way.
-    match receiver.accept(slots, store, headers::marks_from(marks), bytes) {
-        Received::Delivered(delivery) => {
-            return delivered_told(delivery);
+    match receiver.accept(slots, store, marks.into(), bytes) {
+        Ok(Received::Delivered(delivery)) => {
+            return delivery.into();
         }
-        Received::Nothing => {
+        Ok(Received::Nothing) => {
             return nothing_named(answers::NOTHING, 0);
         }
-        Received::NotOurs => {
+        Ok(Received::NotOurs) => {
             return nothing_named(answers::NOT_OURS, 0);
         }
-        Received::Refused(refusal) => {
+        Err(refusal) => {
             return nothing_named(answers::REFUSED, refusal.number());
         }
     }
 }
 
-fn delivered_told(delivery: Delivery) -> FlatReceived
-    ensures { result ≡ delivered_told delivery }
-{
-    let header = delivery.header;
-    let transfer_id = delivery.transfer_id;
-    let part = delivery.part;
-    FlatReceived {
-        span: span_of(part),
-        stamp: delivery.stamp,
-        header: headers::header_told(header),
-        transfer_id: transfer_id.0,
-        loopback: delivery.loopback as u8,
-        what: answers::DELIVERED,
-        refusal: 0,
+impl From<Delivery> for FlatReceived {
+    ghost from_gives = { λ delivery told. told ≡ delivered_told delivery };
+
+    fn from(delivery: Delivery) -> FlatReceived {
+        FlatReceived {
+            span: delivery.part.into(),
+            stamp: delivery.stamp,
+            header: delivery.header.into(),
+            transfer_id: delivery.transfer_id.0,
+            loopback: delivery.loopback as u8,
+            what: answers::DELIVERED,
+            refusal: 0,
+        }
     }
 }
 
-fn span_of(part: Part) -> Span
-    ensures { result ≡ span_of part }
-{
-    match part {
-        Part::OfFrame { len } => Span {
-            start: 0,
-            length: len,
-            memory: IN_FRAME,
-        },
-        Part::OfStore { start, len } => Span {
-            start,
-            length: len,
-            memory: IN_STORE,
-        },
+impl From<Part> for Span {
+    ghost from_gives = { λ part span. span ≡ span_of part };
+
+    fn from(part: Part) -> Span {
+        match part {
+            Part::OfFrame { len } => Span {
+                start: 0,
+                length: len,
+                memory: IN_FRAME,
+            },
+            Part::OfStore { start, len } => Span {
+                start,
+                length: len,
+                memory: IN_STORE,
+            },
+        }
     }
 }
 

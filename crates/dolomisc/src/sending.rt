@@ -1,6 +1,7 @@
 // The doors of the transmitter, of the tracker and of the frame plan.
 ghost use Rattle.std.specs.Prelude.{◌≡◌, ◌-◌};
 ghost use Rattle.rules.specs.Limits.{tried_mtu};
+ghost use Rattle.rules.specs.Refusals.{number_of};
 ghost use Rattle.rules.specs.Tracker.{fresh_numbers};
 ghost use Rattle.tracker.specs.Row.{row_of, asked};
 ghost use Rattle.dolomisc.specs.States.{transmitter_in, transmitter_words};
@@ -9,12 +10,13 @@ ghost use Rattle.dolomisc.specs.Doors.{transfer_from, verdict_through, SentThrou
 use crate::answers::Answer;
 use crate::headers::FlatHeader;
 use crate::states::{QueueWords, TransmitterWords};
-use crate::{answers, headers, states};
+use crate::{answers, states};
 use queue::Place;
-use rules::data::{Mtu, TriedMtu};
+use rules::data::Mtu;
+use rules::refusal::Refusal;
 use rules::send::Transfer;
-use rules::stats::Planned;
-use rules::types::{CanNodeId, CanTransferId, TriedCanTransferId};
+use rules::stats::FrameStats;
+use rules::types::{CanNodeId, CanTransferId};
 use tracker::CanTransferIdTracker;
 use tx::CanTransmitter;
 
@@ -105,24 +107,22 @@ pub extern "C" fn dolomisc_transmitter_push(
 {
     let t = states::transmitter_in(*transmitter);
     let q = states::queue_in(*queue);
-    let sent = t.push(q, places, transfer_from(transfer), payload);
-    let transmitter_after = sent.transmitter;
-    let queue_after = sent.queue;
-    let answer = sent.answer;
-    *transmitter = states::transmitter_words(transmitter_after);
-    *queue = states::queue_words(queue_after);
-    answers::of_sending(answer)
+    let sent = t.push(q, places, transfer.into(), payload);
+    *transmitter = states::transmitter_words(sent.transmitter);
+    *queue = states::queue_words(sent.queue);
+    sent.answer.into()
 }
 
-fn transfer_from(flat: FlatTransfer) -> Transfer
-    ensures { result ≡ transfer_from flat }
-{
-    let header = flat.header;
-    Transfer {
-        header: headers::header_from(header),
-        transfer_id: CanTransferId(flat.transfer_id),
-        stamp: flat.stamp,
-        loopback: flat.loopback != 0,
+impl From<FlatTransfer> for Transfer {
+    ghost from_gives = { λ flat transfer. transfer ≡ transfer_from flat };
+
+    fn from(flat: FlatTransfer) -> Transfer {
+        Transfer {
+            header: flat.header.into(),
+            transfer_id: CanTransferId(flat.transfer_id),
+            stamp: flat.stamp,
+            loopback: flat.loopback != 0,
+        }
     }
 }
 
@@ -131,8 +131,7 @@ fn transfer_from(flat: FlatTransfer) -> Transfer
 pub extern "C" fn dolomisc_tracker_new(tracker: &mut [u32; 20])
     ensures { tracker.new ≡ (row_of fresh_numbers).ids }
 {
-    let fresh = CanTransferIdTracker::new();
-    let ids = fresh.ids;
+    let ids = CanTransferIdTracker::new().ids;
     *tracker = ids;
 }
 
@@ -148,27 +147,27 @@ pub extern "C" fn dolomisc_tracker_next_transfer_id(
     let ids = *tracker;
     let t = CanTransferIdTracker { ids };
     let asked = t.next_transfer_id(CanNodeId(destination));
-    let after = asked.tracker;
-    let answer = asked.answer;
-    let left = after.ids;
+    let left = asked.tracker.ids;
     *tracker = left;
-    given_told(answer)
+    asked.answer.into()
 }
 
-fn given_told(answer: TriedCanTransferId) -> Given
-    ensures { result ≡ given_told answer }
-{
-    match answer {
-        TriedCanTransferId::Valid(id) => Given {
-            what: answers::DONE,
-            refusal: 0,
-            transfer_id: id.0,
-        },
-        TriedCanTransferId::Refused(refusal) => Given {
-            what: answers::REFUSED,
-            refusal: refusal.number(),
-            transfer_id: 0,
-        },
+impl From<Result<CanTransferId, Refusal>> for Given {
+    ghost from_gives = { λ answer given. given ≡ given_told answer };
+
+    fn from(answer: Result<CanTransferId, Refusal>) -> Given {
+        match answer {
+            Ok(id) => Given {
+                what: answers::DONE,
+                refusal: 0,
+                transfer_id: id.0,
+            },
+            Err(refusal) => Given {
+                what: answers::REFUSED,
+                refusal: refusal.number(),
+                transfer_id: 0,
+            },
+        }
     }
 }
 
@@ -178,32 +177,34 @@ pub extern "C" fn dolomisc_frame_stats(payload_length: usize, mtu: usize) -> Pla
     ensures { result ≡ planned_for payload_length (tried_mtu mtu) }
 {
     match Mtu::try_from(mtu) {
-        TriedMtu::Valid(size) => plan_told(wire::calculate_frame_stats(payload_length, size)),
-        TriedMtu::Refused(refusal) => plan_refused(refusal.number()),
+        Ok(size) => wire::calculate_frame_stats(payload_length, size).into(),
+        Err(refusal) => plan_refused(refusal),
     }
 }
 
-fn plan_told(planned: Planned) -> Plan
-    ensures { result ≡ plan_told planned }
-{
-    match planned {
-        Planned::Stats(stats) => Plan {
-            frames: stats.frames,
-            padding: stats.last_frame_padding,
-            what: answers::DONE,
-            refusal: 0,
-        },
-        Planned::Refused(refusal) => plan_refused(refusal.number()),
+impl From<Result<FrameStats, Refusal>> for Plan {
+    ghost from_gives = { λ planned plan. plan ≡ plan_told planned };
+
+    fn from(planned: Result<FrameStats, Refusal>) -> Plan {
+        match planned {
+            Ok(stats) => Plan {
+                frames: stats.frames,
+                padding: stats.last_frame_padding,
+                what: answers::DONE,
+                refusal: 0,
+            },
+            Err(refusal) => plan_refused(refusal),
+        }
     }
 }
 
-fn plan_refused(number: u8) -> Plan
-    ensures { result ≡ plan_refused number }
+fn plan_refused(refusal: Refusal) -> Plan
+    ensures { result ≡ plan_refused (number_of refusal) }
 {
     Plan {
         frames: 0,
         padding: 0,
         what: answers::REFUSED,
-        refusal: number,
+        refusal: refusal.number(),
     }
 }

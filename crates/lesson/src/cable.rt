@@ -5,9 +5,10 @@ use queue::Held;
 use rules::frame::Marks;
 use rules::header::Header;
 use rules::receive::Received;
+use rules::refusal::Refusal;
 use rules::subscription::{Port, Settings};
 use rules::types::SubjectId;
-use rx::subscription::{Subscribed, Subscription};
+use rx::subscription::Subscription;
 use slots::Slots;
 use std::io;
 
@@ -25,16 +26,13 @@ pub(crate) struct Desk<'a, P: Print> {
 // Scans under subject 256, 32 bytes of each kept; an ID that comes again within two seconds is a repeat.
 fn subscribe(slots: &mut Slots) -> Subscription {
     let port = Port::Message(SubjectId(256));
-    match Subscription::new(port, 2_000_000, 32, slots) {
-        Subscribed::Made(display) => display,
-        Subscribed::Refused(_) => Subscription {
-            settings: Settings {
-                port,
-                timeout: 0,
-                extent: 0,
-            },
+    Subscription::new(port, 2_000_000, 32, slots).unwrap_or(Subscription {
+        settings: Settings {
+            port,
+            timeout: 0,
+            extent: 0,
         },
-    }
+    })
 }
 
 // A frame as it is on the cable at a time of its own.
@@ -78,47 +76,55 @@ impl<'a, P: Print> Desk<'a, P> {
         payload: &[u8],
     ) -> io::Result<()> {
         match sender.send(mtu, header, id, payload) {
-            None => Ok(()),
-            Some(_) => self.tell(&["    the send was refused"]),
+            Ok(()) => Ok(()),
+            Err(_) => self.tell(&["    the send was refused"]),
         }
     }
 
     // A frame arrives at the display.
-    pub fn arrive(&mut self, at: u32, held: &Held) -> io::Result<()> {
+    pub fn arrive(&mut self, at: u32, held: &Option<Held>) -> io::Result<()> {
+        let Some(held) = held else {
+            return Ok(());
+        };
         let frame = frame(at, held);
         println!(self.rt; "{frame}")?;
         let answer = self.accept(frame);
         self.show(answer, frame)
     }
 
-    fn accept(&mut self, frame: Frame) -> Received {
+    fn accept(&mut self, frame: Frame) -> Result<Received, Refusal> {
         let Frame { marks, bytes } = frame;
         let answer = self
             .display
             .accept(&mut self.slots, &mut self.store, marks, bytes);
         match answer {
-            Received::Delivered(_) => self.delivered = self.delivered.wrapping_add(1),
-            Received::Refused(_) => self.refused = self.refused.wrapping_add(1),
-            Received::Nothing | Received::NotOurs => {}
+            Ok(Received::Delivered(_)) => self.delivered = self.delivered.wrapping_add(1),
+            Ok(Received::Nothing | Received::NotOurs) => {}
+            Err(_) => self.refused = self.refused.wrapping_add(1),
         }
         answer
     }
 
     // What the display says to the frame, and the bytes that it hands over.
-    fn show(&self, answer: Received, frame: Frame) -> io::Result<()> {
+    fn show(&self, answer: Result<Received, Refusal>, frame: Frame) -> io::Result<()> {
         let payload = rx::payload(answer, frame.bytes, &self.store);
         println!(self.rt; "    {}", Answer { answer, payload })
     }
 
     // A frame that does not arrive.
-    pub fn lose(&self, at: u32, held: &Held) -> io::Result<()> {
+    pub fn lose(&self, at: u32, held: &Option<Held>) -> io::Result<()> {
+        let Some(held) = held else {
+            return Ok(());
+        };
         println!(self.rt; "{}", frame(at, held))?;
         self.tell(&["    lost on the cable"])
     }
 }
 
 // A frame of which one bit is turned round on the way.
-pub(crate) fn garbled(mut held: Held) -> Held {
-    held.bytes[0] ^= 0x10;
+pub(crate) fn garbled(mut held: Option<Held>) -> Option<Held> {
+    if let Some(frame) = &mut held {
+        frame.bytes[0] ^= 0x10;
+    }
     held
 }

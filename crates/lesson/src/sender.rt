@@ -1,8 +1,8 @@
 // A node that sends: its queue, and the places that the queue is lent with each call.
-use queue::{ArrayQueue, Held, MadeQueue, Place};
-use rules::header::{Header, MessageHeader, Source};
+use queue::{ArrayQueue, Held, Place};
+use rules::header::{Header, MessageHeader};
 use rules::refusal::Refusal;
-use rules::send::{Sending, Transfer};
+use rules::send::Transfer;
 use rules::types::{CanNodeId, CanTransferId, Priority, SubjectId};
 use tx::CanTransmitter;
 
@@ -14,22 +14,25 @@ pub(crate) struct Sender {
 
 impl Sender {
     pub fn new() -> Self {
-        let queue = match ArrayQueue::new(16) {
-            MadeQueue::Made(queue) => queue,
-            MadeQueue::Refused(_) => ArrayQueue {
-                head: 0,
-                length: 0,
-                capacity: 0,
-            },
+        let none = ArrayQueue {
+            head: 0,
+            length: 0,
+            capacity: 0,
         };
         Sender {
-            queue,
+            queue: ArrayQueue::new(16).unwrap_or(none),
             places: [[0; 76]; 16],
         }
     }
 
-    // Puts the frames of a message into the queue, and answers the refusal where it is refused.
-    pub fn send(&mut self, mtu: usize, header: Header, id: u8, payload: &[u8]) -> Option<Refusal> {
+    // Puts the frames of a message into the queue.
+    pub fn send(
+        &mut self,
+        mtu: usize,
+        header: Header,
+        id: u8,
+        payload: &[u8],
+    ) -> Result<(), Refusal> {
         let transfer = Transfer {
             header,
             transfer_id: CanTransferId(id),
@@ -39,14 +42,11 @@ impl Sender {
         let transmitter = CanTransmitter::new(mtu);
         let sent = transmitter.push(self.queue, &mut self.places, transfer, payload);
         self.queue = sent.queue;
-        match sent.answer {
-            Sending::Done => None,
-            Sending::Refused(refusal) => Some(refusal),
-        }
+        sent.answer
     }
 
-    // The frame that leaves next.
-    pub fn pop(&mut self) -> Held {
+    // The frame that leaves next, if there is one.
+    pub fn pop(&mut self) -> Option<Held> {
         let popped = self.queue.pop_frame(&self.places);
         self.queue = popped.queue;
         popped.held
@@ -57,7 +57,7 @@ fn message(priority: u8, subject: u16, node: u8) -> Header {
     Header::Message(MessageHeader {
         priority: Priority(priority),
         subject: SubjectId(subject),
-        source: Source::Node(CanNodeId(node)),
+        source: Some(CanNodeId(node)),
     })
 }
 

@@ -1,8 +1,9 @@
 // How the lesson prints what it shows.
 use rules::frame::Marks;
-use rules::header::{Header, Source};
+use rules::header::Header;
 use rules::receive::{Delivery, Received};
 use rules::refusal::Refusal;
+use rules::types::CanNodeId;
 use std::fmt;
 use std::fmt::Display;
 
@@ -47,13 +48,13 @@ impl Display for Frame<'_> {
 
 // Who sends.
 #[derive(Clone, Copy)]
-struct Who(Source);
+struct Who(Option<CanNodeId>);
 
 impl Display for Who {
     fn fmt<W: fmt::Write>(&self, f: &mut fmt::Formatter<W>) -> fmt::Result {
         match self.0 {
-            Source::Node(node) => write!(f, "node {}", node.0),
-            Source::Anonymous => write!(f, "nobody"),
+            Some(node) => write!(f, "node {}", node.0),
+            None => write!(f, "nobody"),
         }
     }
 }
@@ -72,37 +73,6 @@ impl Display for Origin {
             Header::Request(request) => write!(f, "{}, a request", Who(request.source)),
             Header::Response(response) => write!(f, "{}, a response", Who(response.source)),
         }
-    }
-}
-
-// Why a frame is refused: the number that it has in the papers, and words.
-#[derive(Clone, Copy)]
-struct Why(Refusal);
-
-impl Why {
-    fn words(self) -> &'static str {
-        match self.0 {
-            Refusal::NoSession => "no session and no start bit",
-            Refusal::Residue => "a residue other than 0",
-            Refusal::CanId => "a CAN ID that there is not",
-            Refusal::NoBytes => "no bytes",
-            Refusal::FrameTooLong => "a frame too long",
-            Refusal::ReservedBit => "a reserved bit",
-            Refusal::StoreTooSmall => "a store too small",
-            Refusal::ExtentTooLarge => "an extent too large",
-            Refusal::Mtu => "an MTU that there is not",
-            Refusal::PayloadTooLong => "a payload too long",
-            Refusal::AnonymousTooLong => "an anonymous payload too long",
-            Refusal::Field => "a field out of its limits",
-            Refusal::NoPlace => "no free place",
-            Refusal::CapacityTooLarge => "a capacity too large",
-        }
-    }
-}
-
-impl Display for Why {
-    fn fmt<W: fmt::Write>(&self, f: &mut fmt::Formatter<W>) -> fmt::Result {
-        write!(f, "{}, {}", self.0.number(), self.words())
     }
 }
 
@@ -130,7 +100,7 @@ impl Display for Handed<'_> {
 // What the display says to a frame, and the bytes that it hands over.
 #[derive(Clone, Copy)]
 pub(crate) struct Answer<'a> {
-    pub answer: Received,
+    pub answer: Result<Received, Refusal>,
     pub payload: &'a [u8],
 }
 
@@ -138,13 +108,13 @@ impl Display for Answer<'_> {
     fn fmt<W: fmt::Write>(&self, f: &mut fmt::Formatter<W>) -> fmt::Result {
         let payload = self.payload;
         match self.answer {
-            Received::Delivered(delivery) => {
+            Ok(Received::Delivered(delivery)) => {
                 let handed = Handed { delivery, payload };
                 write!(f, "DELIVERED: {handed}")
             }
-            Received::Nothing => write!(f, "nothing"),
-            Received::NotOurs => write!(f, "not ours"),
-            Received::Refused(refusal) => write!(f, "refused by {}", Why(refusal)),
+            Ok(Received::Nothing) => write!(f, "nothing"),
+            Ok(Received::NotOurs) => write!(f, "not ours"),
+            Err(refusal) => write!(f, "refused by {}, {refusal}", refusal.number()),
         }
     }
 }

@@ -1,6 +1,8 @@
 -- No second outcome. Two states with their lent places are alike when the same frames are queued, as many places are free and the capacity is the same. The same
 -- call on alike states gives the same answer and leaves alike states, for each promise speaks of these three alone: what lies in unused places, and where the ring
 -- starts, never shows.
+use Rattle.std.specs.Prelude.{Result, Option, is_some}
+use Rattle.rules.specs.declared.refusal.Refusal.{Refusal}
 use mathlib.Core.Path.{◌≡◌, sym, ap, ap₂, ◌∙◌}
 use mathlib.Core.Bool.{Bool, cond}
 use mathlib.Core.List.{List}
@@ -9,7 +11,6 @@ use lib.Dec.{eqb}
 use lib.ListN.{length}
 use Rattle.rules.specs.Frames.{Frame}
 use Rattle.rules.specs.Queue.{pushed, returned, first, rest, room_for, placed, after}
-use Rattle.rules.specs.declared.placing.Placing.{Placing}
 use Rattle.queue.specs.Place.{held_of}
 use Rattle.queue.specs.Queue.{contents, free, capacity_of, Places, Pops}
 use Rattle.queue.specs.declared.ArrayQueue.{ArrayQueue}
@@ -37,18 +38,18 @@ pub data Call : Type 0 where
 pub data Answer : Type 0 where
   number : ℕ → Answer
   truth : Bool → Answer
-  placing : Placing → Answer
-  frame : Held → Answer
+  placing : Result (Unit {0}) Refusal → Answer
+  frame : Option Held → Answer
 
 -- a call that kept its promise: the state before it, its answer and the state after it
 pub data Kept (q : ArrayQueue) (a : List (List ℕ)) : Call → Answer → ArrayQueue → List (List ℕ) → Type 0 where
   counted : {n : ℕ} → n ≡ length (contents q a) → Kept q a len (number n) q a
   emptied : {t : Bool} → t ≡ eqb (length (contents q a)) 0 → Kept q a is_empty (truth t) q a
   sized : {n : ℕ} → n ≡ capacity_of q → Kept q a capacity (number n) q a
-  reserved : {n : ℕ} {p : Placing} → p ≡ room_for (free q a) n → Kept q a (try_reserve n) (placing p) q a
+  reserved : {n : ℕ} {p : Result (Unit {0}) Refusal} → p ≡ room_for (free q a) n → Kept q a (try_reserve n) (placing p) q a
   pushes : {f : Frame} {r : Pushed} {a' : List (List ℕ)} → Places pushed q a f r a' → Kept q a (push f) (placing r.answer) r.queue a'
   returns : {f : Frame} {r : Pushed} {a' : List (List ℕ)} → Places returned q a f r a' → Kept q a (return f) (placing r.answer) r.queue a'
-  peeks : {h : Held} → h ≡ held_of (first (contents q a)) → Kept q a peek (frame h) q a
+  peeks : {h : Option Held} → h ≡ held_of (first (contents q a)) → Kept q a peek (frame h) q a
   pops : {r : Popped} → Pops q a r → Kept q a pop (frame r.held) r.queue a
 
 module _ {q r : ArrayQueue} {a b : List (List ℕ)} (w : Alike q a r b) where
@@ -58,8 +59,8 @@ module _ {q r : ArrayQueue} {a b : List (List ℕ)} (w : Alike q a r b) where
       let e : x.answer ≡ y.answer = p.answered ∙ ap (λ (n : ℕ). placed n f) w.left ∙ sym o.answered in (
         e,
         record {
-          queued = p.queued ∙ ap₂ (λ (t : Placing) (fs : List Frame). after t (put f fs) fs) e w.queued ∙ sym o.queued;
-          left = p.left ∙ ap₂ (λ (t : Placing) (n : ℕ). after t (n - 1) n) e w.left ∙ sym o.left;
+          queued = p.queued ∙ ap₂ (λ (t : Result (Unit {0}) Refusal) (fs : List Frame). after t (put f fs) fs) e w.queued ∙ sym o.queued;
+          left = p.left ∙ ap₂ (λ (t : Result (Unit {0}) Refusal) (n : ℕ). after t (n - 1) n) e w.left ∙ sym o.left;
           capacity = p.capacity ∙ w.capacity ∙ sym o.capacity;
         },
       )
@@ -70,7 +71,7 @@ module _ {q r : ArrayQueue} {a b : List (List ℕ)} (w : Alike q a r b) where
         e,
         record {
           queued = p.queued ∙ ap rest w.queued ∙ sym o.queued;
-          left = p.left ∙ ap₂ (λ (h : Held) (n : ℕ). cond h.found (suc n) n) e w.left ∙ sym o.left;
+          left = p.left ∙ ap₂ (λ (h : Option Held) (n : ℕ). cond (is_some h) (suc n) n) e w.left ∙ sym o.left;
           capacity = p.capacity ∙ w.capacity ∙ sym o.capacity;
         },
       )

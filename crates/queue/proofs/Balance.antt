@@ -1,5 +1,7 @@
 -- The free places never change but by push, return and pop: a frame that is placed takes one, a frame that is handed out by a pop gives one, and every other
 -- call, a refusal and a pop of an empty queue too, leaves as many as there were.
+use Rattle.std.specs.Prelude.{Err, Ok, Result, is_some}
+use Rattle.rules.specs.declared.refusal.Refusal.{Refusal}
 use mathlib.Core.Path.{◌≡◌, refl, sym}
 use mathlib.Core.Bool.{Bool, true, false, cond}
 use mathlib.Core.List.{List}
@@ -7,8 +9,6 @@ use Prim.Native.Nat.{ℕ, suc, ◌+◌, ◌-◌}
 use native.Mathlib.Omega.{arith}
 use Rattle.rules.specs.Frames.{Frame}
 use Rattle.rules.specs.Queue.{placed, after}
-use Rattle.rules.specs.declared.placing.Placing.{Placing}
-use Rattle.rules.specs.declared.placing.Placing.TheVariants.{Placed, Refused}
 use Rattle.queue.specs.Queue.{free, Places, Pops}
 use Rattle.queue.specs.declared.ArrayQueue.{ArrayQueue}
 use Rattle.queue.specs.declared.Pushed.{Pushed}
@@ -29,7 +29,7 @@ abbrev pub handed_of : Answer → ℕ
 handed_of (number n) = 0
 handed_of (truth t) = 0
 handed_of (placing p) = 0
-handed_of (frame h) = cond h.found 1 0
+handed_of (frame h) = cond (is_some h) 1 0
 
 -- a call that was answered by x where n places were free leaves m free
 abbrev pub Balance : Call → Answer → ℕ → ℕ → Type 0
@@ -46,12 +46,12 @@ module _ {q : ArrayQueue} {a : List (List ℕ)} where
   places_balanced : {put : Frame → List Frame → List Frame} {f : Frame} {r : Pushed} {a' : List (List ℕ)} → Places put q a f r a' → free r.queue a' + after r.answer 1 0 ≡ free q a
   places_balanced {put} {f} {r} {a'} p = go r.answer p.answered p.left
     where
-      go : (t : Placing) → t ≡ placed (free q a) f → free r.queue a' ≡ after t (free q a - 1) (free q a) → free r.queue a' + after t 1 0 ≡ free q a
-      go Placed e l = omega (arith, (placed_fits (free q a) f (sym e)).spare)
-      go (Refused x) e l = omega arith
+      go : (t : Result (Unit {0}) Refusal) → t ≡ placed (free q a) f → free r.queue a' ≡ after t (free q a - 1) (free q a) → free r.queue a' + after t 1 0 ≡ free q a
+      go (Ok _) e l = omega (arith, (placed_fits (free q a) f (sym e)).spare)
+      go (Err x) e l = omega arith
 
-  pops_balanced : {r : Popped} → Pops q a r → free r.queue a ≡ free q a + cond r.held.found 1 0
-  pops_balanced {r} p = go r.held.found p.left
+  pops_balanced : {r : Popped} → Pops q a r → free r.queue a ≡ free q a + cond (is_some r.held) 1 0
+  pops_balanced {r} p = go (is_some r.held) p.left
     where
       go : (b : Bool) → free r.queue a ≡ cond b (suc (free q a)) (free q a) → free r.queue a ≡ free q a + cond b 1 0
       go true l = omega arith

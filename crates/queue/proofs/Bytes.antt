@@ -46,7 +46,7 @@ twelve l h =
 -- the bytes are copied behind the head
 pub begun : (marks : Marks) (count : ℕ) (bytes place headed copied : List ℕ) → length place ≡ place_length → headed ≡ head_of marks count ++ drop 12 place →
     copied ≡ laid bytes (take 64 (drop 12 headed)) → put_mid 12 64 headed copied ≡ head_of marks count ++ laid bytes (drop 12 place)
-begun marks count bytes place headed copied l eh ec = rw (ec, eh) (rw (all, none) (ap (λ (xs : List ℕ). head_of marks count ++ xs) (append-nil _)))
+begun marks count bytes place headed copied l eh ec = rw (ec, eh) (rw (all, None) (ap (λ (xs : List ℕ). head_of marks count ++ xs) (append-nil _)))
   where
     long : length (drop 12 place) ≡ 64
     long = omega (arith, length-drop 12 place)
@@ -54,8 +54,8 @@ begun marks count bytes place headed copied l eh ec = rw (ec, eh) (rw (all, none
     all : take 64 (drop 12 place) ≡ drop 12 place
     all = take_all 64 (drop 12 place) (omega (arith, long))
 
-    none : drop 64 (drop 12 place) ≡ []
-    none = drop_of_length-le (drop 12 place) {i = 64} (omega (arith, long))
+    None : drop 64 (drop 12 place) ≡ []
+    None = drop_of_length-le (drop 12 place) {i = 64} (omega (arith, long))
 
 -- as much of the bytes as a place has room for is all of them
 laid_all : (bytes behind : List ℕ) → length behind ≡ 64 → length bytes ≤ greatest_frame → laid bytes behind ≡ bytes ++ drop (length bytes) behind

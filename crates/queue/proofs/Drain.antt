@@ -1,7 +1,7 @@
 -- A run of pops hands out what is queued, in order: each pop hands out the first and leaves the rest.
+use Rattle.std.specs.Prelude.{Option, Some}
 use mathlib.Core.Path.{◌≡◌, refl, ap, ap₂, ◌∙◌}
 use mathlib.Core.List.{List, [], ◌∷◌, map}
-use mathlib.Core.Option.{Option, some}
 use Prim.Native.Nat.{ℕ}
 use native.Mathlib.Omega.{arith}
 use lib.ListN.{length}
@@ -20,7 +20,7 @@ pub data Run (places : List (List ℕ)) : ArrayQueue → List Popped → Type 0 
 
 -- as many pops as there are frames hand out the frames
 pub drained : {places : List (List ℕ)} {q : ArrayQueue} {rs : List Popped} → Run places q rs → (fs : List Frame) → contents q places ≡ fs → length rs ≡ length fs →
-    map (λ (r : Popped). shown r.held) rs ≡ map some fs
+    map (λ (r : Popped). shown r.held) rs ≡ map Some fs
 drained stop [] e l = refl
 drained stop (f ∷ fs) e l = absurd (omega arith)
 drained (next p r) [] e l = absurd (omega arith)

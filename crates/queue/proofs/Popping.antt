@@ -1,8 +1,8 @@
 -- The first frame of a queue stands at its head; without it the queue is the ring that starts one place on.
+use Rattle.std.specs.Prelude.{Option, Some, is_some}
 use mathlib.Core.Path.{◌≡◌, refl, sym, ap, ◌∙◌}
 use mathlib.Core.Bool.{true, false, true≢false, false≢true}
 use mathlib.Core.List.{List, [], ◌∷◌}
-use mathlib.Core.Option.{some}
 use Prim.Native.Nat.{ℕ, suc, ◌-◌, ◌<◌}
 use native.Mathlib.Omega.{arith}
 use borrow.Author.Tests.{ne_eqb}
@@ -10,9 +10,9 @@ use lib.Dec.{eqb}
 use lib.ListN.{length, get_or}
 use Rattle.rules.specs.Frames.{Frame}
 use Rattle.rules.specs.Queue.{first}
-use Rattle.queue.specs.Place.{frame_of, held_of}
+use Rattle.queue.specs.Place.{frame_of, held, held_of}
 use Rattle.queue.specs.Ring.{slot_of, tab}
-use Rattle.queue.specs.Queue.{sound, frame_at, contents, capacity_is, Pops}
+use Rattle.queue.specs.Queue.{sound, frame_at, contents, free, capacity_is, Pops}
 use Rattle.queue.specs.declared.ArrayQueue.{ArrayQueue}
 use Rattle.queue.specs.declared.Held.{Held}
 use Rattle.queue.proofs.Slots.{slot_zero, slot_next, slot_one_below, tab_same}
@@ -40,39 +40,41 @@ module _ (q : ArrayQueue) (places : List (List ℕ)) (s : Sound q (length places
           (λ k hk. ap (λ (p : ℕ). frame_of (get_or places p [])) (sym (slot_next q.head q.capacity k s.head (omega (arith, s.room))))))
 
   -- what stands at the head is what leaves next
-  pub at_head : held_of (some (frame_of (get_or places q.head []))) ≡ held_of (first (contents q places))
+  pub at_head : Some (held (frame_of (get_or places q.head []))) ≡ held_of (first (contents q places))
   at_head =
-      ap (λ (p : ℕ). held_of (some (frame_of (get_or places p [])))) (sym (slot_zero q.head q.capacity s.head))
+      ap (λ (p : ℕ). Some (held (frame_of (get_or places p [])))) (sym (slot_zero q.head q.capacity s.head))
       ∙ ap (λ (l : List Frame). held_of (first l)) (sym split)
 
   pub pops_first :
-      (held : Held) (head : ℕ) → held ≡ held_of (first (contents q places)) → head ≡ slot_of q.head q.capacity 1 →
-      Pops q places (record { queue = record { head = head; length = q.length - 1; capacity = q.capacity }; held = held })
-  pops_first held head e eh =
+      (out : Option Held) (head : ℕ) → out ≡ held_of (first (contents q places)) → head ≡ slot_of q.head q.capacity 1 →
+      Pops q places (record { queue = record { head = head; length = q.length - 1; capacity = q.capacity }; held = out })
+  pops_first out head e eh =
       rw (e, eh)
       (record {
         answered = refl;
         queued = rw split;
-        left = rw split (omega (arith, s.room, free_of q places (sound_of q _ s), free_of (next q) places next_sound));
+        left =
+            let w : free (next q) places ≡ suc (free q places) = omega (arith, s.room, free_of q places (sound_of q _ s), free_of (next q) places next_sound) in
+            rw split w;
         capacity = capacity_is (next q) ∙ sym (capacity_is q);
         kept = rw split;
       })
 
 -- whether there is a frame, by what is handed out
-none_held : (fs : List Frame) → (held_of (first fs)).found ≡ false → fs ≡ []
+none_held : (fs : List Frame) → is_some (held_of (first fs)) ≡ false → fs ≡ []
 none_held [] e = refl
 none_held (f ∷ fs) e = absurd (true≢false e)
 
-some_held : (fs : List Frame) → (held_of (first fs)).found ≡ true → eqb (length fs) 0 ≡ false
+some_held : (fs : List Frame) → is_some (held_of (first fs)) ≡ true → eqb (length fs) 0 ≡ false
 some_held [] e = absurd (false≢true e)
 some_held (f ∷ fs) e = ne_eqb (suc (length fs)) 0 (λ w. omega arith)
 
-module _ (q : ArrayQueue) (places : List (List ℕ)) (held : Held) (e : held ≡ held_of (first (contents q places))) where
+module _ (q : ArrayQueue) (places : List (List ℕ)) (h : Option Held) (e : h ≡ held_of (first (contents q places))) where
   -- where a frame is handed out one is queued
-  pub found_queued : held.found ≡ true → Sound q (length places) × (0 < q.length)
+  pub found_queued : is_some h ≡ true → Sound q (length places) × (0 < q.length)
   found_queued t = with_frames q places (some_held (contents q places) (rw e at t))
 
-  pub pops_nothing : held.found ≡ false → Pops q places (record { queue = q; held = held })
+  pub pops_nothing : is_some h ≡ false → Pops q places (record { queue = q; held = h })
   pops_nothing t =
       let n : contents q places ≡ [] = none_held (contents q places) (rw e at t) in
       rw e (record { answered = refl; queued = rw n; left = rw n; capacity = refl; kept = rw n })

@@ -1,4 +1,5 @@
 -- A frame in the gap is among those queued where its rule puts it; push and return differ in that rule and in where the ring then starts.
+use Rattle.std.specs.Prelude.{Err, Ok, Result}
 use mathlib.Core.Path.{◌≡◌, refl, sym, ap, ◌∙◌}
 use mathlib.Core.Bool.{true}
 use mathlib.Core.List.{List}
@@ -12,8 +13,6 @@ use Rattle.rules.specs.Limits.{greatest_frame, greatest_can_id}
 use Rattle.rules.specs.Frames.{Frame}
 use Rattle.rules.specs.Queue.{placed}
 use Rattle.rules.specs.declared.refusal.Refusal.{Refusal}
-use Rattle.rules.specs.declared.placing.Placing.{Placing}
-use Rattle.rules.specs.declared.placing.Placing.TheVariants.{Placed, Refused}
 use Rattle.queue.specs.Place.{frame_of}
 use Rattle.queue.specs.Ring.{slot_of, at, tab}
 use Rattle.queue.specs.Room.{Opened, inserted_at}
@@ -86,30 +85,30 @@ pub record Fits (room : ℕ) (f : Frame) : Type 0 where
   pub small : f.id ≤ greatest_can_id
   pub spare : 0 < room
 
-no_placing : {A : Type 0} {r : Refusal} → ◌≡◌ {A = Placing} (Refused r) Placed → A
+no_placing : {A : Type 0} {r : Refusal} → ◌≡◌ {A = Result (Unit {0}) Refusal} (Err r) (Ok tt) → A
 no_placing e = absurd (let z : ◌≡◌ {A = ℕ} 0 1 = cc in omega arith)
 
-pub placed_fits : (room : ℕ) (f : Frame) → placed room f ≡ Placed → Fits room f
+pub placed_fits : (room : ℕ) (f : Frame) → placed room f ≡ Ok tt → Fits room f
 placed_fits room f e =
     let e₁ = first_chosen (leb (length f.bytes) greatest_frame) _ _ _ e (λ w. no_placing w) in
     let e₂ = first_chosen (leb f.id greatest_can_id) _ _ _ e₁.1 (λ w. no_placing w) in
     let e₃ = first_chosen (leb 1 room) _ _ _ e₂.1 (λ w. no_placing w) in
     record { short = leb-true _ _ e₁.0; small = leb-true _ _ e₂.0; spare = leb-true _ _ e₃.0 }
 
-pub fits_placed : (room : ℕ) (f : Frame) → Fits room f → placed room f ≡ Placed
+pub fits_placed : (room : ℕ) (f : Frame) → Fits room f → placed room f ≡ Ok tt
 fits_placed room f h = simp (le-leb _ _ h.short, le-leb _ _ h.small, le-leb _ _ h.spare)
 
 -- where a frame is placed the state is sound, and not full
-pub placed_in : (q : ArrayQueue) (places : List (List ℕ)) (f : Frame) → Placed ≡ placed (free q places) f → Sound q (length places) × (q.length < q.capacity)
+pub placed_in : (q : ArrayQueue) (places : List (List ℕ)) (f : Frame) → Ok tt ≡ placed (free q places) f → Sound q (length places) × (q.length < q.capacity)
 placed_in q places f e = with_room q places (placed_fits (free q places) f (sym e)).spare
 
 module _ (put : Frame → List Frame → List Frame) (q : ArrayQueue) (places : List (List ℕ)) (f : Frame) where
-  pub refuses : (r : Refusal) → Refused r ≡ placed (free q places) f → Places put q places f (record { queue = q; answer = Refused r }) places
+  pub refuses : (r : Refusal) → Err r ≡ placed (free q places) f → Places put q places f (record { queue = q; answer = Err r }) places
   refuses r e = record { answered = e; queued = refl; left = refl; capacity = refl; kept = (refl, refl) }
 
   -- the frame is written into the place that was opened for it
-  pub places_it : {head p : ℕ} {places' : List (List ℕ)} (place : List ℕ) (q' : ArrayQueue) → Placed ≡ placed (free q places) f → Opens put q head f.id places places' p →
-      frame_of place ≡ f → q' ≡ grown q head → Places put q places f (record { queue = q'; answer = Placed }) (set places' p place)
+  pub places_it : {head p : ℕ} {places' : List (List ℕ)} (place : List ℕ) (q' : ArrayQueue) → Ok tt ≡ placed (free q places) f → Opens put q head f.id places places' p →
+      frame_of place ≡ f → q' ≡ grown q head → Places put q places f (record { queue = q'; answer = Ok tt }) (set places' p place)
   places_it place q' e o ef eq =
       let w = o.takes place (ap (λ (g : Frame). g.id) ef) in
       rw eq (record { answered = e; queued = rw ef at w.queued; left = omega (arith, w.left); capacity = w.capacity; kept = (refl, refl) })
@@ -118,6 +117,6 @@ module _ (put : Frame → List Frame → List Frame) (q : ArrayQueue) (places : 
 pub put_in : {put : Frame → List Frame → List Frame} {q : ArrayQueue} {places places' : List (List ℕ)} {f : Frame} {r : Pushed} →
     Places put q places f r places' → Fits (free q places) f → Put put q places f r.queue places'
 put_in {put} {q} {places} {places'} {f} {r} p h =
-    let t : r.answer ≡ Placed = p.answered ∙ fits_placed (free q places) f h in
+    let t : r.answer ≡ Ok tt = p.answered ∙ fits_placed (free q places) f h in
     let l : free r.queue places' ≡ free q places - 1 = rw t at p.left in
     record { queued = rw t at p.queued; left = omega (arith, h.spare); capacity = p.capacity }

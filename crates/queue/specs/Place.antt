@@ -1,6 +1,5 @@
 -- What a place says. Its 76 bytes are the ID, the stamp, the loopback's mark, the number of the frame's bytes, two of no use, and 64 for the frame's bytes.
-use Rattle.std.specs.Prelude.{true, false, cond, not, List, [], ◌∷◌, ℕ, ◌+◌, ◌*◌, ◌/◌, ◌%◌, min, eqb, length, get_or, take, drop, replicate}
-use Rattle.std.proofs.Math.Option.{Option, none, some}
+use Rattle.std.specs.Prelude.{cond, not, List, [], ◌∷◌, ℕ, ◌+◌, ◌*◌, ◌/◌, ◌%◌, min, eqb, length, get_or, take, drop, replicate, Option, option_map}
 use Rattle.laws.specs.Laid.{laid}
 use Rattle.rules.specs.Limits.{greatest_frame}
 use Rattle.rules.specs.Frames.{Frame, frame}
@@ -34,16 +33,17 @@ head_of marks count =
     ∷ (marks.stamp % 256) ∷ (marks.stamp / 256 % 256) ∷ (marks.stamp / 65536 % 256) ∷ (marks.stamp / 16777216)
     ∷ cond marks.loopback 1 0 ∷ count ∷ 0 ∷ 0 ∷ []
 
--- a frame, or none, as it is handed out: behind its bytes are zeros, and none is all zeros
-abbrev pub held_of : Option Frame → Held
-held_of none = record { found = false; marks = record { stamp = 0; id = 0; loopback = false }; length = 0; bytes = replicate greatest_frame 0 }
-held_of (some f) = record {
-  found = true;
+-- a frame as it is handed out: behind its bytes are zeros
+abbrev pub held : Frame → Held
+held f = record {
   marks = record { stamp = f.stamp; id = f.id; loopback = f.loopback };
   length = length f.bytes;
   bytes = laid f.bytes (replicate greatest_frame 0);
 }
 
+abbrev pub held_of : Option Frame → Option Held
+held_of o = option_map held o
+
 -- the frame that was handed out, or none
-abbrev pub shown : Held → Option Frame
-shown h = cond h.found (some (frame h.marks (take h.length h.bytes))) none
+abbrev pub shown : Option Held → Option Frame
+shown o = option_map (λ (h : Held). frame h.marks (take h.length h.bytes)) o

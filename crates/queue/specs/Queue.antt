@@ -1,6 +1,7 @@
 -- What a queue holds, how many places are free, and what each function makes of that. Whoever uses a queue knows it by these three alone: what is queued, what
 -- is free, and its capacity. Which places hold which frame, and how, is not to be seen from outside.
-use Rattle.std.specs.Prelude.{◌≡◌, refl, Bool, cond, ◌&&◌, List, [], ℕ, suc, ◌+◌, ◌-◌, ◌<◌, ltb, leb, length, set}
+use Rattle.std.specs.Prelude.{◌≡◌, refl, Bool, cond, ◌&&◌, List, [], ℕ, suc, ◌+◌, ◌-◌, ◌<◌, ltb, leb, length, set, Err, Ok, Result, is_some}
+use Rattle.rules.specs.declared.refusal.Refusal.{Refusal}
 use Rattle.rules.specs.Limits.{greatest_capacity}
 use Rattle.rules.specs.Frames.{Frame}
 use Rattle.rules.specs.Queue.{first, rest, placed, after}
@@ -8,8 +9,6 @@ use Rattle.rules.specs.declared.refusal.Refusal.TheVariants.{CapacityTooLarge}
 use Rattle.queue.specs.Place.{frame_of, held_of}
 use Rattle.queue.specs.Ring.{at, tab}
 use Rattle.queue.specs.declared.ArrayQueue.{ArrayQueue}
-use Rattle.queue.specs.declared.MadeQueue.{MadeQueue}
-use Rattle.queue.specs.declared.MadeQueue.TheVariants.{Made, Refused}
 use Rattle.queue.specs.declared.Pushed.{Pushed}
 use Rattle.queue.specs.declared.Popped.{Popped}
 
@@ -38,8 +37,8 @@ pub fresh : ℕ → ArrayQueue
 fresh n = record { head = 0; length = 0; capacity = n }
 
 -- a queue for n frames, or refusal 14
-abbrev pub made : ℕ → MadeQueue
-made n = cond (leb n greatest_capacity) (Made (fresh n)) (Refused CapacityTooLarge)
+abbrev pub made : ℕ → Result ArrayQueue Refusal
+made n = cond (leb n greatest_capacity) (Ok (fresh n)) (Err CapacityTooLarge)
 
 -- ---- what these four are, for the queue's own proofs
 
@@ -79,9 +78,9 @@ pub record Places (put : Frame → List Frame → List Frame) (q : ArrayQueue) (
 pub record Pops (q : ArrayQueue) (places : List (List ℕ)) (r : Popped) : Type 0 where
   pub answered : r.held ≡ held_of (first (contents q places))
   pub queued : contents r.queue places ≡ rest (contents q places)
-  pub left : free r.queue places ≡ cond r.held.found (suc (free q places)) (free q places)
+  pub left : free r.queue places ≡ cond (is_some r.held) (suc (free q places)) (free q places)
   pub capacity : capacity_of r.queue ≡ capacity_of q
-  pub kept : r.queue ≡ cond r.held.found r.queue q
+  pub kept : r.queue ≡ cond (is_some r.held) r.queue q
 
 -- ---- what the functions of this crate promise each other
 

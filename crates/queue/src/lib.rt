@@ -15,7 +15,6 @@ ghost use Rattle.queue.specs.Queue.{sound, contents, free, capacity_of, made, gr
 use ring::Ring;
 use rules::data::{CAPACITY_MAX, CanId, FRAME_CAPACITY};
 use rules::frame::Marks;
-use rules::placing::Placing;
 use rules::refusal::Refusal;
 
 mod place;
@@ -36,44 +35,37 @@ pub struct ArrayQueue {
     pub capacity: usize,
 }
 
-#[derive(Clone, Copy)]
-pub enum MadeQueue {
-    Made(ArrayQueue),
-    Refused(Refusal),
-}
-
 // The queue after a frame was to be placed, and the answer.
 #[derive(Clone, Copy)]
 pub struct Pushed {
     pub queue: ArrayQueue,
-    pub answer: Placing,
+    pub answer: Result<(), Refusal>,
 }
 
-// A frame that was found, its bytes the first `length`; or none, and then every field is zero.
+// A frame that is handed out, its bytes the first `length`; behind them are zeros.
 #[derive(Clone, Copy)]
 pub struct Held {
-    pub found: bool,
     pub marks: Marks,
     pub length: usize,
     pub bytes: [u8; FRAME_CAPACITY],
 }
 
-// The queue after its first frame left, and that frame.
+// The queue after its first frame left, and that frame, if there was one.
 #[derive(Clone, Copy)]
 pub struct Popped {
     pub queue: ArrayQueue,
-    pub held: Held,
+    pub held: Option<Held>,
 }
 
 impl ArrayQueue {
     // An empty queue for so many frames. Refuses a capacity over its limit by 14.
-    pub fn new(capacity: usize) -> MadeQueue
+    pub fn new(capacity: usize) -> Result<ArrayQueue, Refusal>
         ensures { result ≡ made capacity }
     {
         if CAPACITY_MAX < capacity {
-            return MadeQueue::Refused(Refusal::CapacityTooLarge);
+            return Err(Refusal::CapacityTooLarge);
         }
-        MadeQueue::Made(ArrayQueue {
+        Ok(ArrayQueue {
             head: 0,
             length: 0,
             capacity,
@@ -105,14 +97,14 @@ impl ArrayQueue {
     }
 
     // Whether so many frames find a place. Refuses by 13.
-    pub fn try_reserve(self, places: &[Place], frames: usize) -> Placing
+    pub fn try_reserve(self, places: &[Place], frames: usize) -> Result<(), Refusal>
         ensures { result ≡ room_for (free self places.now) frames }
     {
         let room = self.free(places);
         if room < frames {
-            return Placing::Refused(Refusal::NoPlace);
+            return Err(Refusal::NoPlace);
         }
-        Placing::Placed
+        Ok(())
     }
 
     // Puts the frame behind its equals. Refuses by 3, 1, 13; the queue and the lent places are then unchanged.
@@ -121,11 +113,11 @@ impl ArrayQueue {
     {
         let count = bytes.len();
         match self.judge(places, marks, count) {
-            Placing::Refused(refusal) => Pushed {
+            Err(refusal) => Pushed {
                 queue: self,
-                answer: Placing::Refused(refusal),
+                answer: Err(refusal),
             },
-            Placing::Placed => {
+            Ok(()) => {
                 let id = marks.id;
                 let p = self.open_behind(places, id);
                 place::fill(&mut places[p], marks, bytes);
@@ -133,7 +125,7 @@ impl ArrayQueue {
                 let queue = self.grown(head);
                 Pushed {
                     queue,
-                    answer: Placing::Placed,
+                    answer: Ok(()),
                 }
             }
         }
@@ -145,11 +137,11 @@ impl ArrayQueue {
     {
         let count = part.len() + 1;
         match self.judge(places, marks, count) {
-            Placing::Refused(refusal) => Pushed {
+            Err(refusal) => Pushed {
                 queue: self,
-                answer: Placing::Refused(refusal),
+                answer: Err(refusal),
             },
-            Placing::Placed => {
+            Ok(()) => {
                 let id = marks.id;
                 let p = self.open_behind(places, id);
                 place::fill_tailed(&mut places[p], marks, part, tail);
@@ -157,7 +149,7 @@ impl ArrayQueue {
                 let queue = self.grown(head);
                 Pushed {
                     queue,
-                    answer: Placing::Placed,
+                    answer: Ok(()),
                 }
             }
         }
@@ -165,14 +157,13 @@ impl ArrayQueue {
 
     // The frame that leaves next; none of an empty queue.
     #[tactic(auto, using(crate::proofs::State::with_frames))]
-    pub fn peek_frame(self, places: &[Place]) -> Held
+    pub fn peek_frame(self, places: &[Place]) -> Option<Held>
         ensures { result ≡ held_of (first (contents self places.now)) }
     {
         if self.is_empty(places) {
-            return place::nothing();
+            return None;
         }
-        let first = self.head;
-        place::held(&places[first])
+        Some(place::held(&places[self.head]))
     }
 
     // Takes the frame that leaves next out of the queue; its place is free at once. An empty queue is unchanged.
@@ -181,8 +172,7 @@ impl ArrayQueue {
         ensures { Pops self places.now result }
     {
         let held = self.peek_frame(places);
-        let found = held.found;
-        if !found {
+        if held.is_none() {
             return Popped { queue: self, held };
         }
         let head = self.head;
@@ -206,11 +196,11 @@ impl ArrayQueue {
     {
         let count = bytes.len();
         match self.judge(places, marks, count) {
-            Placing::Refused(refusal) => Pushed {
+            Err(refusal) => Pushed {
                 queue: self,
-                answer: Placing::Refused(refusal),
+                answer: Err(refusal),
             },
-            Placing::Placed => {
+            Ok(()) => {
                 let id = marks.id;
                 let head = self.head;
                 let cap = self.capacity;
@@ -221,7 +211,7 @@ impl ArrayQueue {
                 let queue = self.grown(front);
                 Pushed {
                     queue,
-                    answer: Placing::Placed,
+                    answer: Ok(()),
                 }
             }
         }
@@ -257,18 +247,13 @@ impl ArrayQueue {
     }
 
     // Whether a frame with so many bytes is placed: refusals 3, 1, 13 in this order.
-    fn judge(self, places: &[Place], marks: Marks, count: usize) -> Placing
+    fn judge(self, places: &[Place], marks: Marks, count: usize) -> Result<(), Refusal>
         ensures { (bytes : List ℕ) → length bytes ≡ count → result ≡ placed (free self places.now) (frame marks bytes) }
     {
-        let short = count <= FRAME_CAPACITY;
-        let id = CanId(marks.id);
-        let valid = id.is_valid();
-        if !short {
-            return Placing::Refused(Refusal::FrameTooLong);
+        if FRAME_CAPACITY < count {
+            return Err(Refusal::FrameTooLong);
         }
-        if !valid {
-            return Placing::Refused(Refusal::CanId);
-        }
+        CanId::try_from(marks.id)?;
         self.try_reserve(places, 1)
     }
 

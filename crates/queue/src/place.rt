@@ -1,12 +1,11 @@
 // The layout of a place, which is this crate's alone: the ID in bytes 0 to 3 and the stamp in bytes 4 to 7, low byte first; byte 8 is 1 for a loopback;
 // byte 9 is the number of the frame's bytes, which stand from byte 12 on.
 ghost use Rattle.std.specs.Prelude.{◌≡◌, cond, [], ◌++◌, ◌≤◌, ◌<◌, min, length, get_or, drop};
-ghost use Rattle.std.proofs.Math.Option.{none, some};
 ghost use Rattle.laws.specs.Laid.{laid};
 ghost use Rattle.rules.specs.Limits.{greatest_frame};
 ghost use Rattle.rules.specs.Frames.{frame};
 ghost use Rattle.rules.specs.Transfer.{tailed};
-ghost use Rattle.queue.specs.Place.{head_length, head_of, frame_of, held_of};
+ghost use Rattle.queue.specs.Place.{head_length, head_of, frame_of, held};
 
 use crate::{Held, Place};
 use rules::data::FRAME_CAPACITY;
@@ -70,7 +69,7 @@ pub(crate) fn fill_tailed(place: &mut Place, marks: Marks, part: &[u8], tail: u8
 
 // The frame of a place; behind its bytes are zeros. No place says more bytes than a frame can have. The marks are read before the copy, which is faster.
 pub(crate) fn held(place: &Place) -> Held
-    ensures { result ≡ held_of (some (frame_of place.now)) }
+    ensures { result ≡ held (frame_of place.now) }
 {
     let marks = Marks {
         stamp: stamp_of(place),
@@ -81,26 +80,8 @@ pub(crate) fn held(place: &Place) -> Held
     let mut bytes = [0u8; FRAME_CAPACITY];
     blocks::copy(&place[HEAD..HEAD + length], &mut bytes);
     Held {
-        found: true,
         marks,
         length,
         bytes,
-    }
-}
-
-// No frame.
-pub(crate) fn nothing() -> Held
-    ensures { result ≡ held_of none }
-{
-    let marks = Marks {
-        stamp: 0,
-        id: 0,
-        loopback: false,
-    };
-    Held {
-        found: false,
-        marks,
-        length: 0,
-        bytes: [0u8; FRAME_CAPACITY],
     }
 }

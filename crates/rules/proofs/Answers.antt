@@ -1,9 +1,10 @@
 -- An answer is that of one case of the enum alone, so a contract that is stated through answers admits no second result: each refusal's number names it.
+use Rattle.std.specs.Prelude.{Err, Ok, Result}
 use Rattle.std.proofs.Common.{◌≡◌, ℕ, ◌-◌, List, [], ◌∷◌, get_or, sym, refl, ap, ◌∙◌}
 use Rattle.rules.specs.declared.refusal.Refusal.{Refusal}
 use Rattle.rules.specs.declared.refusal.Refusal.TheVariants.{CanId, NoBytes, FrameTooLong, ReservedBit, NoSession, Residue, StoreTooSmall, ExtentTooLarge, Mtu, PayloadTooLong, AnonymousTooLong, Field, NoPlace, CapacityTooLarge}
 use Rattle.rules.specs.declared.receive.Received.{Received}
-use Rattle.rules.specs.declared.receive.Received.TheVariants.{Delivered, Nothing, NotOurs, Refused}
+use Rattle.rules.specs.declared.receive.Received.TheVariants.{Delivered, Nothing, NotOurs}
 use Rattle.rules.specs.Refusals.{number_of}
 use Rattle.rules.specs.Answers.{Answer, delivers, nothing, not_ours, refuses, answer_of}
 
@@ -36,18 +37,18 @@ named_back CapacityTooLarge = refl
 pub one_number : (q r : Refusal) → number_of q ≡ number_of r → q ≡ r
 one_number q r e = sym (named_back q) ∙ ap named e ∙ named_back r
 
-abbrev case_of : Answer → Received
-case_of (delivers d) = Delivered d
-case_of nothing = Nothing
-case_of not_ours = NotOurs
-case_of (refuses n) = Refused (named n)
+abbrev case_of : Answer → Result Received Refusal
+case_of (delivers d) = Ok (Delivered d)
+case_of nothing = (Ok Nothing)
+case_of not_ours = (Ok NotOurs)
+case_of (refuses n) = Err (named n)
 
-case_back : (a : Received) → case_of (answer_of a) ≡ a
-case_back (Delivered d) = refl
-case_back Nothing = refl
-case_back NotOurs = refl
-case_back (Refused r) = ap Refused (named_back r)
+case_back : (a : Result Received Refusal) → case_of (answer_of a) ≡ a
+case_back (Ok (Delivered d)) = refl
+case_back (Ok Nothing) = refl
+case_back (Ok NotOurs) = refl
+case_back (Err r) = ap Err (named_back r)
 
 -- an answer is that of one case
-pub one_answer : (a b : Received) → answer_of a ≡ answer_of b → a ≡ b
+pub one_answer : (a b : Result Received Refusal) → answer_of a ≡ answer_of b → a ≡ b
 one_answer a b e = sym (case_back a) ∙ ap case_of e ∙ case_back b

@@ -1,11 +1,11 @@
 -- A WHOLE TRANSFER IS DELIVERED at its last frame, under the stamp of its first, and its slot then waits for the next ID: the first frame opens a session, each
 -- middle one joins it, and the last has the CRC that leaves residue 0; or the one frame is all. It is said of the cell of the transfer's source.
+use Rattle.std.specs.Prelude.{Option}
 use Rattle.std.proofs.Common.{◌≡◌, ℕ, zero, suc, ◌+◌, ◌-◌, ◌<◌, ◌≤◌, min, Bool, true, false, not, List, [], ◌∷◌, ◌++◌, map, length, take, drop, replicate, refl, ap, ◌∙◌, subst, ⊎_elim, append_assoc, arith, length-append, take-append-drop, length-take, take-take, le-leb}
 use lib.Seq.{take-append-le}
 use Rattle.laws.proofs.Choose.{at_most_or_above}
 use Rattle.laws.proofs.Cuts.{take_min}
 use Rattle.rules.specs.declared.subscription.Settings.{Settings}
-use Rattle.rules.specs.declared.slots.LastTime.{LastTime}
 use Rattle.rules.specs.declared.slots.Slot.{Slot}
 use Rattle.rules.specs.Limits.{greatest_frame, room_of}
 use Rattle.rules.specs.Crc.{crc_start, crc, crc_bytes}
@@ -93,7 +93,7 @@ module _ (s : Settings) (n : ℕ) (t : Sent) (to : SentTo s.port n t) (begin : �
   first_begins c stamp bytes new free fits fs =
       ap gist (sent_next c stamp bytes true false true fits _ (first_opens s.timeout c t.header stamp t.loopback t.transfer_id bytes new free) fs)
 
-  module _ (last : LastTime) (stamp : ℕ) (part : List ℕ) where
+  module _ (last : Option ℕ) (stamp : ℕ) (part : List ℕ) where
     -- the transfer is under way, and these bytes came
     abbrev pub sofar : Bool → List ℕ → Cell
     sofar toggle came = under_way t.transfer_id last stamp t.loopback toggle came part

@@ -1,15 +1,13 @@
 -- DOCUMENT 01'S TWO EXCEPTIONS ARE WHERE THE RULE TAKES A FIRST FRAME ELSEWHERE than to a session of its own: nowhere, where it is a repeat, and to an older
 -- session, where its ID is expected. All is read off the ID rule's three outcomes: only a slot that goes on as it was can have a session, and then the ID is the
 -- expected one.
+use Rattle.std.specs.Prelude.{None, Option, Some}
 use Rattle.std.proofs.Common.{◌≡◌, ℕ, ◌<◌, Bool, true, false, cond, List, length, sym, refl, ap, ◌∙◌, subst, arith}
 use mathlib.Core.Bool.{beq}
 use Rattle.laws.proofs.Choose.{either_way}
 use Rattle.rules.specs.declared.receive.Arrival.{Arrival}
 use Rattle.rules.specs.declared.slots.Session.{Session as TheSession}
-use Rattle.rules.specs.declared.slots.Open.{Open}
-use Rattle.rules.specs.declared.slots.Open.TheVariants.{Closed, With}
 use Rattle.rules.specs.declared.slots.Slot.{Slot}
-use Rattle.rules.specs.declared.slots.Admitted.{Admitted}
 use Rattle.rules.specs.Limits.{room_of}
 use Rattle.rules.specs.Slot.{with_session, restarted}
 use Rattle.rules.specs.Session.{opened, awaits, joined, stored}
@@ -36,16 +34,16 @@ module _ (timeout : ℕ) (slot : Slot) (t : Sent) where
       id_rule timeout slot t.transfer_id (t.at 0) (λ x. P (to_admitted x)) repeat (λ new q. go slot.session refl new q)
       (λ new q. clear new (λ s m. q m.expected))
     where
-      go : (o : Open) → slot.session ≡ o → (Again → ⊥) → t.transfer_id ≡ slot.expected.0 → P (to_open o)
-      go Closed e new q = clear new (λ s m. let z : ◌≡◌ {A = ℕ} 0 1 = cc in omega arith)
-      go (With s) e new q = meets s (record { expected = omega (arith, q); running = e })
+      go : (o : Option TheSession) → slot.session ≡ o → (Again → ⊥) → t.transfer_id ≡ slot.expected.0 → P (to_open o)
+      go None e new q = clear new (λ s m. let z : ◌≡◌ {A = ℕ} 0 1 = cc in omega arith)
+      go (Some s) e new q = meets s (record { expected = omega (arith, q); running = e })
 
   -- a frame that meets a session is no repeat, and a slot has one session
   met_new : (s : TheSession) → Meets s → Again → ⊥
   met_new s m r = omega (arith, m.expected, r.before)
 
   met_one : (s u : TheSession) → Meets s → Meets u → s ≡ u
-  met_one s u m k = let e : With s ≡ With u = sym m.running ∙ k.running in cc
+  met_one s u m k = let e : Some s ≡ Some u = sym m.running ∙ k.running in cc
 
   pub to_nowhere : Again → where_to timeout slot t ≡ nowhere
   to_nowhere r = three_ways (λ x. x ≡ nowhere) (λ _. refl) (λ s m. absurd (met_new s m r)) (λ new none. absurd (new r))
@@ -93,8 +91,8 @@ left_of slot part t toggle bytes s = record {
 
     go : (b : Bool)
         → (cond b (continued slot (stored s.total bytes part) (first_of t toggle) (joined (length part) s bytes))
-        (leaves nothing (with_session slot (With s)) part)).cell.slot.session
-        ≡ With (cond b (joined (length part) s bytes) s)
+        (leaves nothing (with_session slot (Some s)) part)).cell.slot.session
+        ≡ Some (cond b (joined (length part) s bytes) s)
     go true = refl
     go false = refl
 
@@ -106,7 +104,7 @@ module _ (timeout : ℕ) (c : Cell) (t : Sent) (toggle : Bool) (bytes : List ℕ
   meets_turn : (s : TheSession) → MeetsSession c.slot t.transfer_id s → turn timeout c a bytes ≡ in_session c.slot c.part a bytes s
   unfolding turn goes_on
   meets_turn s m =
-      id_rule timeout c.slot t.transfer_id (t.at 0) (λ (x : Admitted). by_id_rule x c a bytes ≡ in_session c.slot c.part a bytes s)
+      id_rule timeout c.slot t.transfer_id (t.at 0) (λ (x : Option Slot). by_id_rule x c a bytes ≡ in_session c.slot c.part a bytes s)
       (λ r. absurd (met_new timeout c.slot t s m r)) (λ new q. rw m.running refl) (λ new q. absurd (q m.expected))
 
   -- one that meets none, and is no repeat, opens its own
@@ -114,7 +112,7 @@ module _ (timeout : ℕ) (c : Cell) (t : Sent) (toggle : Bool) (bytes : List ℕ
       → turn timeout c a bytes ≡ in_session (restarted c.slot (record { 0 = t.transfer_id })) c.part a bytes (opened a)
   unfolding turn goes_on
   own_turn new none =
-      ap (λ (x : Admitted). by_id_rule x c a bytes)
+      ap (λ (x : Option Slot). by_id_rule x c a bytes)
       (free_admitted timeout c.slot t.transfer_id (t.at 0) new (meets_none c.slot t.transfer_id none))
 
 -- THE EXCEPTIONS ARE THE RULE'S

@@ -29,3 +29,4 @@ pub mod Beyond
 pub mod Bench
 pub mod Worked
 pub mod Readings
+pub mod Granted

@@ -1,15 +1,13 @@
 -- ONE SOURCE AMONG ALL: what it hears, answers and bytes, and the cell that it is left with come of its own frames alone, by the rules for one source. For its
 -- frames are its turns, and all others leave its cell as it was; so whatever is proved of one cell is proved of the whole receiver.
+use Rattle.std.specs.Prelude.{None, Option, Some, Err, Ok, Result}
+use Rattle.rules.specs.declared.refusal.Refusal.{Refusal}
 use Rattle.std.proofs.Common.{◌≡◌, ℕ, ◌*◌, ◌%◌, ◌≤◌, Bool, true, false, leb, List, [], ◌∷◌, length, sym, refl, ap, ◌∙◌, subst, ap₂, ne_eqb, eqb-true, le-leb}
 use borrow.Author.Tests.{eqb-false}
 use Rattle.rules.specs.declared.types.CanNodeId.{CanNodeId}
-use Rattle.rules.specs.declared.header.Source.{Source}
-use Rattle.rules.specs.declared.header.Source.TheVariants.{Node, Anonymous}
 use Rattle.rules.specs.declared.subscription.Port.{Port}
 use Rattle.rules.specs.declared.subscription.Settings.{Settings}
 use Rattle.rules.specs.declared.receive.Arrival.{Arrival}
-use Rattle.rules.specs.declared.receive.Reading.{Reading}
-use Rattle.rules.specs.declared.receive.Reading.TheVariants.{Ours, NotOurs, Refused}
 use Rattle.rules.specs.Limits.{nodes}
 use Rattle.rules.specs.Frames.{Frame}
 use Rattle.rules.specs.Answers.{Answer, shown, answer_from}
@@ -46,7 +44,7 @@ course s start c [] = record { told = []; cell = c }
 course s start c (f ∷ fs) = after (told_at start f (turn_at s c f)) (course s start (turn_at s c f).cell fs)
 
 -- a frame for this subscription that has a source is a turn
-pub turn_ours : (s : Settings) (c : Cell) (f : Frame) (a : Arrival) (m : CanNodeId) → reading s.port f ≡ Ours a → source_in a.header ≡ Node m
+pub turn_ours : (s : Settings) (c : Cell) (f : Frame) (a : Arrival) (m : CanNodeId) → reading s.port f ≡ Ok (Some a) → source_in a.header ≡ Some m
     → turn_at s c f ≡ turn s.timeout c a (before_tail f.bytes)
 unfolding turn_at
 turn_ours s c f a m e q = rw (e, q) refl
@@ -56,25 +54,25 @@ turn_ours s c f a m e q = rw (e, q) refl
 -- a test that every good frame of source n passes, and no other source's
 pub record Picks (port : Port) (n : ℕ) (test : Frame → Bool) : Type 0 where
   pub every : (f : Frame) → test f ≡ false → is_from port n f ≡ false
-  pub alone : (f : Frame) (a : Arrival) (m : CanNodeId) → test f ≡ true → reading port f ≡ Ours a → source_in a.header ≡ Node m → m.0 ≡ n
+  pub alone : (f : Frame) (a : Arrival) (m : CanNodeId) → test f ≡ true → reading port f ≡ Ok (Some a) → source_in a.header ≡ Some m → m.0 ≡ n
 
 module _ (port : Port) (n : ℕ) where
   -- being a good frame of the source is such a test
   pub good_picks : Picks port n (is_from port n)
   good_picks = record { every = λ f e. e; alone = λ f a m t e q. eqb-true m.0 n (sym (from_source port f a m e q n) ∙ t) }
 
-  not_from : (f : Frame) → ((a : Arrival) (m : CanNodeId) → reading port f ≡ Ours a → source_in a.header ≡ Node m → m.0 ≡ n → ⊥) → is_from port n f ≡ false
+  not_from : (f : Frame) → ((a : Arrival) (m : CanNodeId) → reading port f ≡ Ok (Some a) → source_in a.header ≡ Some m → m.0 ≡ n → ⊥) → is_from port n f ≡ false
   unfolding is_from
   not_from f other = go (reading port f) refl
     where
-      from : (o : Source) (a : Arrival) → reading port f ≡ Ours a → source_in a.header ≡ o → is_node n o ≡ false
-      from Anonymous a e q = refl
-      from (Node m) a e q = ne_eqb m.0 n (other a m e q)
+      from : (o : Option CanNodeId) (a : Arrival) → reading port f ≡ Ok (Some a) → source_in a.header ≡ o → is_node n o ≡ false
+      from None a e q = refl
+      from (Some m) a e q = ne_eqb m.0 n (other a m e q)
 
-      go : (r : Reading) → reading port f ≡ r → read_from n r ≡ false
-      go (Refused r) e = refl
-      go NotOurs e = refl
-      go (Ours a) e = from (source_in a.header) a e refl
+      go : (r : Result (Option Arrival) Refusal) → reading port f ≡ r → read_from n r ≡ false
+      go (Err r) e = refl
+      go (Ok None) e = refl
+      go (Ok (Some a)) e = from (source_in a.header) a e refl
 
   -- and so is having it in the low seven bits of the CAN ID
   pub low_picks : Picks port n (has_low n)
@@ -109,7 +107,7 @@ module _ (s : Settings) where
 
   module _ (w : TheReceiver) (f : Frame) (h : Roomy s w) where
     -- so it is with a frame that is ours and has a source, at its source's cell
-    at_source_lem : (a : Arrival) (m : CanNodeId) → reading s.port f ≡ Ours a → source_in a.header ≡ Node m → AsAtCell w f m.0
+    at_source_lem : (a : Arrival) (m : CanNodeId) → reading s.port f ≡ Ok (Some a) → source_in a.header ≡ Some m → AsAtCell w f m.0
     at_source_lem a m e q =
         let t = own_turn s w f a m h.room e q h.many in
         let b = own_shown s w f a m h.room e q in
@@ -117,21 +115,21 @@ module _ (s : Settings) where
         (ap₂ answered t.1 b, t.0)
 
     -- and with a frame that no source but n can have sent, at the cell of n
-    at_own : (n : ℕ) → ((a : Arrival) (m : CanNodeId) → reading s.port f ≡ Ours a → source_in a.header ≡ Node m → m.0 ≡ n) → AsAtCell w f n
+    at_own : (n : ℕ) → ((a : Arrival) (m : CanNodeId) → reading s.port f ≡ Ok (Some a) → source_in a.header ≡ Some m → m.0 ≡ n) → AsAtCell w f n
     unfolding received judged turn_at
     at_own n mine = go (reading s.port f) refl
       where
         fits : leb (nodes * s.extent) (length w.store) ≡ true
         fits = le-leb (nodes * s.extent) (length w.store) h.room
 
-        from : (o : Source) (a : Arrival) → reading s.port f ≡ Ours a → source_in a.header ≡ o → AsAtCell w f n
-        from Anonymous a e q = rw (fits, e, q) (refl, refl)
-        from (Node m) a e q = subst (AsAtCell w f) (mine a m e q) (at_source_lem a m e q)
+        from : (o : Option CanNodeId) (a : Arrival) → reading s.port f ≡ Ok (Some a) → source_in a.header ≡ o → AsAtCell w f n
+        from None a e q = rw (fits, e, q) (refl, refl)
+        from (Some m) a e q = subst (AsAtCell w f) (mine a m e q) (at_source_lem a m e q)
 
-        go : (r : Reading) → reading s.port f ≡ r → AsAtCell w f n
-        go (Refused r) e = rw (fits, e) (refl, refl)
-        go NotOurs e = rw (fits, e) (refl, refl)
-        go (Ours a) e = from (source_in a.header) a e refl
+        go : (r : Result (Option Arrival) Refusal) → reading s.port f ≡ r → AsAtCell w f n
+        go (Err r) e = rw (fits, e) (refl, refl)
+        go (Ok None) e = rw (fits, e) (refl, refl)
+        go (Ok (Some a)) e = from (source_in a.header) a e refl
 
   -- A SOURCE'S COURSE IS ITS OWN: what it hears of any frames, and the cell that they leave it, is the course of its own frames at its cell
   pub own_course_lem : (n : ℕ) (test : Frame → Bool) → Picks s.port n test → (fs : List Frame) (w : TheReceiver) → Roomy s w

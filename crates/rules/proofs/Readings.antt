@@ -1,13 +1,10 @@
 -- Inputs that tell document 01 from wrong readings of it, beside those of the bench sheet and of Worked.antt. Each claim is an answer by 01's rule, by
 -- computation; an edit of must-fail/ puts the wrong reading into the book, and the claim is then a false equation. docs/PROMISES.md has both answers.
+use Rattle.std.specs.Prelude.{Err, Ok, Some}
 use Rattle.std.proofs.Common.{◌≡◌, ℕ, ◌-◌, ◌^◌, true, false, List, [], ◌∷◌, ◌++◌, map, get_or, take, drop, replicate, refl}
 use Rattle.rules.specs.declared.refusal.Refusal.TheVariants.{Field, ReservedBit}
 use Rattle.rules.specs.declared.data.Mtu.TheVariants.{Can8, CanFd64}
-use Rattle.rules.specs.declared.header.Source.TheVariants.{Node}
 use Rattle.rules.specs.declared.header.Header.TheVariants.{Message, Request}
-use Rattle.rules.specs.declared.header.ParsedCanId.TheVariants.{Parsed, Refused as NotParsed}
-use Rattle.rules.specs.declared.slots.LastTime.TheVariants.{At}
-use Rattle.rules.specs.declared.send.Judged.TheVariants.{Refused}
 use Rattle.rules.specs.Crc.{crc_bytes, crc_bit, crc_bits, crc_byte}
 use Rattle.rules.specs.CanId.{parsed_can_id}
 use Rattle.rules.specs.TailByte.{tail_byte, parsed_tail}
@@ -88,7 +85,7 @@ unfolding stamps
 first_stamp = refl
 
 -- .. and so is the last time after it
-pub last_time : (get_or (run (settings 5) fresh (begins ∷ ends ∷ [])).slots 42 fresh_slot).last_time ≡ At 0
+pub last_time : (get_or (run (settings 5) fresh (begins ∷ ends ∷ [])).slots 42 fresh_slot).last_time ≡ Some 0
 unfolding answers_to
 last_time = refl
 
@@ -132,23 +129,23 @@ longest_frame = refl
 -- ---- the wire
 
 -- bits 7 and 23 of a message's ID are looked at
-pub bit_7 : parsed_can_id 0x1061_00AA ≡ NotParsed ReservedBit
+pub bit_7 : parsed_can_id 0x1061_00AA ≡ Err ReservedBit
 unfolding parsed_can_id
 bit_7 = refl
 
-pub bit_23 : parsed_can_id 0x1081_002A ≡ NotParsed ReservedBit
+pub bit_23 : parsed_can_id 0x1081_002A ≡ Err ReservedBit
 unfolding parsed_can_id
 bit_23 = refl
 
 -- a subject has thirteen bits: this one is 4096
 pub subject_bits :
     parsed_can_id 0x1070_002A
-    ≡ Parsed (Message (record { priority = record { 0 = 4 }; subject = record { 0 = 4096 }; source = Node (record { 0 = 42 }) }))
+    ≡ Ok (Message (record { priority = record { 0 = 4 }; subject = record { 0 = 4096 }; source = Some (record { 0 = 42 }) }))
 unfolding parsed_can_id
 subject_bits = refl
 
 -- case 4's request, read: its service is 430
-pub service_bits : parsed_can_id 0x076B_8289 ≡ Parsed (Request service)
+pub service_bits : parsed_can_id 0x076B_8289 ≡ Ok (Request service)
 unfolding parsed_can_id
 service_bits = refl
 
@@ -199,5 +196,5 @@ pub equals_in_order : map (λ (f : Frame). f.stamp) (returned (five 3) (pushed (
 equals_in_order = refl
 
 -- a refused send steps its count by one, beyond 32 bits too
-pub count_goes_on : counted (Refused Field) (record { done = 0; refused = 2 ^ 32 - 1 }) ≡ record { done = 0; refused = 2 ^ 32 }
+pub count_goes_on : counted (Err Field) (record { done = 0; refused = 2 ^ 32 - 1 }) ≡ record { done = 0; refused = 2 ^ 32 }
 count_goes_on = refl

@@ -1,19 +1,15 @@
 -- The whole receiver: who sent a frame that was read, which way it is judged, and that it touches its source's slot and part alone.
+use Rattle.std.specs.Prelude.{Err, None, Ok, Option, Result, Some}
+use Rattle.rules.specs.declared.refusal.Refusal.{Refusal}
 use Rattle.std.proofs.Common.{◌≡◌, ℕ, zero, suc, ◌+◌, ◌*◌, ◌%◌, ◌<◌, ◌≤◌, Bool, true, false, cond, eqb, leb, ◌≢◌, List, [], ◌∷◌, length, get_or, drop, set, sym, refl, ap, ◌∙◌, mul-le-mul_right, arith, length-drop, length-set, length-take, get_or-set_other, get_or-set_same, le-leb, leb-true}
 use borrow.Author.Tests.{eqb-false}
 use Rattle.laws.proofs.Choose.{either_way, first_chosen, second_chosen}
 use Rattle.rules.specs.declared.refusal.Refusal.TheVariants.{CanId as CanIdTooLarge, ReservedBit, NoBytes, FrameTooLong, StoreTooSmall}
 use Rattle.rules.specs.declared.types.CanNodeId.{CanNodeId}
-use Rattle.rules.specs.declared.header.Source.{Source}
-use Rattle.rules.specs.declared.header.Source.TheVariants.{Node, Anonymous}
 use Rattle.rules.specs.declared.header.Header.{Header}
-use Rattle.rules.specs.declared.header.ParsedCanId.{ParsedCanId}
-use Rattle.rules.specs.declared.header.ParsedCanId.TheVariants.{Parsed, Refused as NotParsed}
 use Rattle.rules.specs.declared.subscription.Port.{Port}
 use Rattle.rules.specs.declared.subscription.Settings.{Settings}
 use Rattle.rules.specs.declared.receive.Arrival.{Arrival}
-use Rattle.rules.specs.declared.receive.Reading.{Reading}
-use Rattle.rules.specs.declared.receive.Reading.TheVariants.{Ours, NotOurs, Refused}
 use Rattle.rules.specs.declared.slots.Slot.{Slot}
 use Rattle.rules.specs.Limits.{greatest_can_id, greatest_frame, transfer_ids, nodes}
 use Rattle.rules.specs.CanId.{bits_at, is_set, reserved, header_of, said_by, parsed_can_id}
@@ -30,59 +26,59 @@ use Rattle.rules.proofs.Source.{part_length, expected_below, shown_in_part}
 
 module _ (id : ℕ) (n : CanNodeId) where
   -- a source field that is read names the low seven bits
-  low_bits : Node (record { 0 = bits_at id 0 7 }) ≡ Node n → n.0 ≡ id % nodes
+  low_bits : Some (record { 0 = bits_at id 0 7 }) ≡ Some n → n.0 ≡ id % nodes
   low_bits e = let f : n ≡ record { 0 = bits_at id 0 7 } = cc in ap (λ (k : CanNodeId). k.0) f ∙ omega arith
 
-  header_source : source_in (header_of id) ≡ Node n → n.0 ≡ id % nodes
+  header_source : source_in (header_of id) ≡ Some n → n.0 ≡ id % nodes
   header_source =
-      let From : Source → Type 0 = λ o. o ≡ Node n → n.0 ≡ id % nodes in
+      let From : Option CanNodeId → Type 0 = λ o. o ≡ Some n → n.0 ≡ id % nodes in
       let P : Header → Type 0 = λ h. From (source_in h) in
       either_way P (is_set id 25) (either_way P (is_set id 24) low_bits low_bits)
       (either_way From (is_set id 24) (λ e. let z : ◌≡◌ {A = ℕ} 0 1 = cc in absurd (omega arith)) low_bits)
 
   -- the source that a header read from an ID names is the low seven bits of the ID
-  pub source_read : (h : Header) → parsed_can_id id ≡ Parsed h → source_in h ≡ Node n → n.0 ≡ id % nodes
+  pub source_read : (h : Header) → parsed_can_id id ≡ Ok h → source_in h ≡ Some n → n.0 ≡ id % nodes
   unfolding parsed_can_id
   source_read h e q =
-      let c = first_chosen (leb id greatest_can_id) (said_by id) (NotParsed CanIdTooLarge) (Parsed h) e (λ y. let z : ◌≡◌ {A = ℕ} 0 1 = cc in omega arith) in
-      let d = second_chosen (reserved id) (NotParsed ReservedBit) (Parsed (header_of id)) (Parsed h) c.1 (λ y. let z : ◌≡◌ {A = ℕ} 0 1 = cc in omega arith) in
+      let c = first_chosen (leb id greatest_can_id) (said_by id) (Err CanIdTooLarge) (Ok h) e (λ y. let z : ◌≡◌ {A = ℕ} 0 1 = cc in omega arith) in
+      let d = second_chosen (reserved id) (Err ReservedBit) (Ok (header_of id)) (Ok h) c.1 (λ y. let z : ◌≡◌ {A = ℕ} 0 1 = cc in omega arith) in
       let f : header_of id ≡ h = cc in
       header_source (ap source_in f ∙ q)
 
   -- and thus one of the 128
-  pub source_below : (h : Header) → parsed_can_id id ≡ Parsed h → source_in h ≡ Node n → n.0 < nodes
+  pub source_below : (h : Header) → parsed_can_id id ≡ Ok h → source_in h ≡ Some n → n.0 < nodes
   source_below h e q = omega (arith, source_read h e q)
 
 module _ (port : Port) (f : Frame) (a : Arrival) where
-  addressed_ours : (p : ParsedCanId) → addressed port f p ≡ Ours a → (p ≡ Parsed a.header) × (a ≡ arrival_of f a.header)
-  addressed_ours (NotParsed r) e = let z : ◌≡◌ {A = ℕ} 0 1 = cc in absurd (omega arith)
-  addressed_ours (Parsed h) e =
-      let c = first_chosen (wants port h) (Ours (arrival_of f h)) NotOurs (Ours a) e (λ y. let z : ◌≡◌ {A = ℕ} 0 1 = cc in omega arith) in
+  addressed_ours : (p : Result Header Refusal) → addressed port f p ≡ Ok (Some a) → (p ≡ Ok a.header) × (a ≡ arrival_of f a.header)
+  addressed_ours (Err r) e = let z : ◌≡◌ {A = ℕ} 0 1 = cc in absurd (omega arith)
+  addressed_ours (Ok h) e =
+      let c = first_chosen (wants port h) (Ok (Some (arrival_of f h))) (Ok None) (Ok (Some a)) e (λ y. let z : ◌≡◌ {A = ℕ} 0 1 = cc in omega arith) in
       let q : arrival_of f h ≡ a = cc in
-      (ap (λ (b : Arrival). Parsed b.header) q, sym q ∙ ap (λ (b : Arrival). arrival_of f b.header) q)
+      (ap (λ (b : Arrival). Ok b.header) q, sym q ∙ ap (λ (b : Arrival). arrival_of f b.header) q)
 
   -- a frame that is ours has a header, which its ID says, and the fields of its last byte
-  pub ours_read : reading port f ≡ Ours a → (parsed_can_id f.id ≡ Parsed a.header) × (a ≡ arrival_of f a.header)
+  pub ours_read : reading port f ≡ Ok (Some a) → (parsed_can_id f.id ≡ Ok a.header) × (a ≡ arrival_of f a.header)
   unfolding reading
   ours_read e =
-      let c = second_chosen (eqb (length f.bytes) 0) (Refused NoBytes) _ (Ours a) e (λ y. let z : ◌≡◌ {A = ℕ} 0 1 = cc in omega arith) in
-      let d = first_chosen (leb (length f.bytes) greatest_frame) _ (Refused FrameTooLong) (Ours a) c.1 (λ y. let z : ◌≡◌ {A = ℕ} 0 1 = cc in omega arith) in
+      let c = second_chosen (eqb (length f.bytes) 0) (Err NoBytes) _ (Ok (Some a)) e (λ y. let z : ◌≡◌ {A = ℕ} 0 1 = cc in omega arith) in
+      let d = first_chosen (leb (length f.bytes) greatest_frame) _ (Err FrameTooLong) (Ok (Some a)) c.1 (λ y. let z : ◌≡◌ {A = ℕ} 0 1 = cc in omega arith) in
       addressed_ours (parsed_can_id f.id) d.1
 
   -- the source of a frame that is ours is one of the 128: the low seven bits of its ID
-  pub source_known : (n : CanNodeId) → reading port f ≡ Ours a → source_in a.header ≡ Node n → (n.0 < nodes) × (n.0 ≡ f.id % nodes)
+  pub source_known : (n : CanNodeId) → reading port f ≡ Ok (Some a) → source_in a.header ≡ Some n → (n.0 < nodes) × (n.0 ≡ f.id % nodes)
   source_known n e q =
       let r = (ours_read e).0 in
       (source_below f.id n a.header r q, source_read f.id n a.header r q)
 
   -- its transfer ID is one of the 32
-  pub id_below : reading port f ≡ Ours a → a.tail.transfer_id.0 < transfer_ids
+  pub id_below : reading port f ≡ Ok (Some a) → a.tail.transfer_id.0 < transfer_ids
   id_below e =
       let q : a.tail.transfer_id.0 ≡ tail_of f.bytes % transfer_ids = ap (λ (b : Arrival). b.tail.transfer_id.0) (ours_read e).1 in
       omega arith
 
   -- it is a frame from that source and from no other
-  pub from_source : (n : CanNodeId) → reading port f ≡ Ours a → source_in a.header ≡ Node n → (m : ℕ) → is_from port m f ≡ eqb n.0 m
+  pub from_source : (n : CanNodeId) → reading port f ≡ Ok (Some a) → source_in a.header ≡ Some n → (m : ℕ) → is_from port m f ≡ eqb n.0 m
   unfolding is_from
   from_source n e q m = ap (read_from m) e ∙ ap (is_node m) q
 
@@ -91,21 +87,21 @@ module _ (port : Port) (f : Frame) (a : Arrival) where
 module _ {A : Type 0} (s : Settings) (room : ℕ) (f : Frame) (same : Answer → A) (slot : ℕ → Arrival → List ℕ → A) where
   -- what holds wherever nothing changes but the answer, and of the rules for each source where the store has its part, holds of the judgement
   pub judged_either : (P : A → Type 0) → ((answer : Answer) → P (same answer))
-      → ((n : ℕ) (a : Arrival) → n < nodes → nodes * s.extent ≤ room → reading s.port f ≡ Ours a → source_in a.header ≡ Node (record { 0 = n })
+      → ((n : ℕ) (a : Arrival) → n < nodes → nodes * s.extent ≤ room → reading s.port f ≡ Ok (Some a) → source_in a.header ≡ Some (record { 0 = n })
       → P (slot n a (before_tail f.bytes)))
       → P (judged s room f same slot)
   unfolding judged
   judged_either P kept turns = go (leb (nodes * s.extent) room) refl
     where
-      from : (o : Source) (a : Arrival) → nodes * s.extent ≤ room → reading s.port f ≡ Ours a → source_in a.header ≡ o
+      from : (o : Option CanNodeId) (a : Arrival) → nodes * s.extent ≤ room → reading s.port f ≡ Ok (Some a) → source_in a.header ≡ o
           → P (by_source o a (before_tail f.bytes) same slot)
-      from Anonymous a h e q = kept _
-      from (Node n) a h e q = turns n.0 a (source_known s.port f a n e q).0 h e q
+      from None a h e q = kept _
+      from (Some n) a h e q = turns n.0 a (source_known s.port f a n e q).0 h e q
 
-      read : (r : Reading) → nodes * s.extent ≤ room → reading s.port f ≡ r → P (by_reading r (before_tail f.bytes) same slot)
-      read (Refused r) h e = kept _
-      read NotOurs h e = kept _
-      read (Ours a) h e = from (source_in a.header) a h e refl
+      read : (r : Result (Option Arrival) Refusal) → nodes * s.extent ≤ room → reading s.port f ≡ r → P (by_reading r (before_tail f.bytes) same slot)
+      read (Err r) h e = kept _
+      read (Ok None) h e = kept _
+      read (Ok (Some a)) h e = from (source_in a.header) a h e refl
 
       go : (t : Bool) → leb (nodes * s.extent) room ≡ t
           → P (cond t (by_reading (reading s.port f) (before_tail f.bytes) same slot) (same (refused_by StoreTooSmall)))
@@ -120,14 +116,14 @@ module _ {A : Type 0} (s : Settings) (room : ℕ) (f : Frame) (same : Answer →
       bytes : List ℕ
       bytes = before_tail f.bytes
 
-      from : (o : Source) (a : Arrival) → g (by_source o a bytes same slot) ≡ by_source o a bytes (λ x. g (same x)) (λ n b bs. g (slot n b bs))
-      from Anonymous a = refl
-      from (Node n) a = refl
+      from : (o : Option CanNodeId) (a : Arrival) → g (by_source o a bytes same slot) ≡ by_source o a bytes (λ x. g (same x)) (λ n b bs. g (slot n b bs))
+      from None a = refl
+      from (Some n) a = refl
 
-      read : (r : Reading) → g (by_reading r bytes same slot) ≡ by_reading r bytes (λ x. g (same x)) (λ n b bs. g (slot n b bs))
-      read (Refused r) = refl
-      read NotOurs = refl
-      read (Ours a) = from (source_in a.header) a
+      read : (r : Result (Option Arrival) Refusal) → g (by_reading r bytes same slot) ≡ by_reading r bytes (λ x. g (same x)) (λ n b bs. g (slot n b bs))
+      read (Err r) = refl
+      read (Ok None) = refl
+      read (Ok (Some a)) = from (source_in a.header) a
 
       go : (t : Bool) → g (cond t (by_reading (reading s.port f) bytes same slot) (same (refused_by StoreTooSmall)))
           ≡ cond t (by_reading (reading s.port f) bytes (λ x. g (same x)) (λ n b bs. g (slot n b bs))) (g (same (refused_by StoreTooSmall)))
@@ -188,7 +184,7 @@ module _ (s : Settings) (w : TheReceiver) (f : Frame) where
   -- what holds of an unchanged receiver and of each source's turn in its place holds of what a frame leaves
   received_either : (P : TheReceiver → Type 0) → P w
       → ((n : ℕ) (a : Arrival) → n < nodes → n * s.extent + s.extent ≤ length w.store → length (turn_of n a).cell.part ≡ s.extent
-      → reading s.port f ≡ Ours a → source_in a.header ≡ Node (record { 0 = n })
+      → reading s.port f ≡ Ok (Some a) → source_in a.header ≡ Some (record { 0 = n })
       → P (at_source s.extent w n (turn_of n a)).receiver)
       → P (received s w f).receiver
   unfolding received
@@ -228,8 +224,8 @@ module _ (s : Settings) (w : TheReceiver) (f : Frame) where
       set_either (λ (x : Slot). x.expected.0 < transfer_ids) w.slots n m (turn_of n a).cell.slot fresh_slot
       (expected_below s.timeout (cell_at s.extent w n) a (before_tail f.bytes) (id_below s.port f a e) (all n h)) (all m i))
 
-  module _ (a : Arrival) (n : CanNodeId) (fits : nodes * s.extent ≤ length w.store) (ours : reading s.port f ≡ Ours a)
-      (known : source_in a.header ≡ Node n) where
+  module _ (a : Arrival) (n : CanNodeId) (fits : nodes * s.extent ≤ length w.store) (ours : reading s.port f ≡ Ok (Some a))
+      (known : source_in a.header ≡ Some n) where
     -- a frame that is ours and has a source is that source's turn
     pub received_own : received s w f ≡ at_source s.extent w n.0 (turn_of n.0 a)
     unfolding received judged

@@ -1,8 +1,9 @@
 -- Laws of sending: the order is kept, equal IDs keep sending order, a send brings its frames and no others, and the counts count.
+use Rattle.std.specs.Prelude.{Err, Ok, Result}
+use Rattle.rules.specs.declared.send.Outgoing.{Outgoing}
+use Rattle.rules.specs.declared.refusal.Refusal.{Refusal}
 use Rattle.std.proofs.Common.{◌≡◌, ℕ, suc, ◌+◌, ◌%◌, ◌^◌, List, [], ◌∷◌, ◌++◌, map, length, sym, refl, ap, ◌∙◌, append_assoc, append-nil, arith}
 use Rattle.rules.specs.declared.frame.Marks.{Marks}
-use Rattle.rules.specs.declared.send.Judged.{Judged}
-use Rattle.rules.specs.declared.send.Judged.TheVariants.{Goes, Refused}
 use Rattle.rules.specs.Frames.{Frame, frame}
 use Rattle.rules.specs.Queue.{pushed, Ordered, having}
 use Rattle.rules.specs.Sending.{all_pushed, Counts, counted, counted_all}
@@ -32,23 +33,23 @@ module _ (marks : Marks) where
 -- ---- the counts
 
 -- how many of a list of sends were done, and how many refused
-abbrev pub done_of : List Judged → ℕ
+abbrev pub done_of : List (Result Outgoing Refusal) → ℕ
 done_of [] = 0
-done_of (Goes o ∷ js) = suc (done_of js)
-done_of (Refused r ∷ js) = done_of js
+done_of (Ok o ∷ js) = suc (done_of js)
+done_of (Err r ∷ js) = done_of js
 
-abbrev pub refused_of : List Judged → ℕ
+abbrev pub refused_of : List (Result Outgoing Refusal) → ℕ
 refused_of [] = 0
-refused_of (Goes o ∷ js) = refused_of js
-refused_of (Refused r ∷ js) = suc (refused_of js)
+refused_of (Ok o ∷ js) = refused_of js
+refused_of (Err r ∷ js) = suc (refused_of js)
 
 -- AFTER ANY LIST OF SENDS the counts are the sends done and refused, modulo 2^64
-pub counts_done : (js : List Judged) (c : Counts) → (counted_all js c).done % 2 ^ 64 ≡ (c.done + done_of js) % 2 ^ 64
+pub counts_done : (js : List (Result Outgoing Refusal)) (c : Counts) → (counted_all js c).done % 2 ^ 64 ≡ (c.done + done_of js) % 2 ^ 64
 counts_done [] c = omega arith
-counts_done (Goes o ∷ js) c = counts_done js (counted (Goes o) c) ∙ omega arith
-counts_done (Refused r ∷ js) c = counts_done js (counted (Refused r) c)
+counts_done (Ok o ∷ js) c = counts_done js (counted (Ok o) c) ∙ omega arith
+counts_done (Err r ∷ js) c = counts_done js (counted (Err r) c)
 
-pub counts_refused : (js : List Judged) (c : Counts) → (counted_all js c).refused % 2 ^ 64 ≡ (c.refused + refused_of js) % 2 ^ 64
+pub counts_refused : (js : List (Result Outgoing Refusal)) (c : Counts) → (counted_all js c).refused % 2 ^ 64 ≡ (c.refused + refused_of js) % 2 ^ 64
 counts_refused [] c = omega arith
-counts_refused (Goes o ∷ js) c = counts_refused js (counted (Goes o) c)
-counts_refused (Refused r ∷ js) c = counts_refused js (counted (Refused r) c) ∙ omega arith
+counts_refused (Ok o ∷ js) c = counts_refused js (counted (Ok o) c)
+counts_refused (Err r ∷ js) c = counts_refused js (counted (Err r) c) ∙ omega arith

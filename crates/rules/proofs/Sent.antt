@@ -1,10 +1,10 @@
 -- WHAT THE RECEIVER READS IN A TRANSFER: each frame of the published rule is ours, from its source, with the fields and bytes that were put in it. For a tail byte
 -- that was made is read back, and no frame is over the MTU.
+use Rattle.std.specs.Prelude.{Ok, Some}
 use Rattle.std.proofs.Common.{◌≡◌, ℕ, zero, suc, ◌-◌, ◌<◌, ◌≤◌, Bool, true, false, not, eqb, List, [], ◌∷◌, length, get_or, take, drop, refl, ap, ◌∙◌, arith, length-append, eq-eqb, ne_eqb, le-leb}
 use lib.Seq.{get_or_at}
 use Rattle.rules.specs.declared.subscription.Port.{Port}
 use Rattle.rules.specs.declared.subscription.Settings.{Settings}
-use Rattle.rules.specs.declared.receive.Reading.TheVariants.{Ours}
 use Rattle.rules.specs.Limits.{greatest_frame, room_of}
 use Rattle.rules.specs.Crc.{crc_start}
 use Rattle.rules.specs.TailByte.{tail_byte}
@@ -41,7 +41,7 @@ Fits frames = (k : ℕ) → length (get_or frames k []) ≤ greatest_frame
 module _ (port : Port) (n : ℕ) (t : Sent) (to : SentTo port n t) (stamp : ℕ) (bytes : List ℕ) (start end toggle : Bool)
     (fits : length (tailed bytes (tail_byte start end toggle t.transfer_id)) ≤ greatest_frame) where
   -- it is ours, and is read as it was made
-  pub sent_read : reading port (frame_sent t stamp bytes start end toggle) ≡ Ours (arrival t.header stamp t.loopback t.transfer_id start end toggle)
+  pub sent_read : reading port (frame_sent t stamp bytes start end toggle) ≡ Ok (Some (arrival t.header stamp t.loopback t.transfer_id start end toggle))
   unfolding reading
   sent_read =
       let tail : ℕ = tail_byte start end toggle t.transfer_id in

@@ -1,4 +1,7 @@
 -- Reading loses nothing: the header that was read off a CAN ID is sent under that ID again, but for the bits that are not looked at.
+use Rattle.std.specs.Prelude.{Err, Ok, Result}
+use Rattle.rules.specs.declared.data.CanId.{CanId}
+use Rattle.rules.specs.declared.refusal.Refusal.{Refusal}
 use Rattle.std.proofs.Common.{◌≡◌, ℕ, ◌+◌, ◌-◌, ◌*◌, ◌/◌, ◌%◌, ◌^◌, ◌<◌, ◌≤◌, Bool, true, false, cond, leb, List, sym, refl, ap, ◌∙◌, ⊎_elim, mod-lt, div-one, arith, pow_pos, eqb-true, le-leb, leb-true}
 use lib.Pow.{split}
 use borrow.Author.Tests.{eqb-false}
@@ -6,9 +9,6 @@ use Rattle.laws.proofs.Choose.{at_most_or_above, first_chosen, second_chosen, ne
 use Rattle.laws.proofs.Bits.{split_off}
 use Rattle.rules.specs.declared.refusal.Refusal.TheVariants.{CanId as CanIdTooLarge, ReservedBit}
 use Rattle.rules.specs.declared.header.Header.{Header}
-use Rattle.rules.specs.declared.header.MadeCanId.{MadeCanId}
-use Rattle.rules.specs.declared.header.MadeCanId.TheVariants.{Made}
-use Rattle.rules.specs.declared.header.ParsedCanId.TheVariants.{Parsed, Refused as NotParsed}
 use Rattle.rules.specs.Limits.{greatest_priority, greatest_subject, greatest_service, greatest_node, greatest_can_id}
 use Rattle.rules.specs.CanId.{bit, pseudo_source, can_id_of, bits_at, is_set, reserved, header_of, said_by, parsed_can_id}
 
@@ -71,8 +71,8 @@ module _ (id : ℕ) where
 pseudo_in : (payload : List ℕ) → leb (pseudo_source payload) greatest_node ≡ true
 pseudo_in payload = let h : pseudo_source payload ≤ greatest_node = omega arith in le-leb _ _ h
 
-abbrev made : ℕ → MadeCanId
-made n = Made (record { 0 = n })
+abbrev made : ℕ → Result CanId Refusal
+made n = Ok (record { 0 = n })
 
 -- by bits 25 and 24
 again : (id : ℕ) (payload : List ℕ) (service mark : Bool) → id ≤ greatest_can_id → is_set id 25 ≡ service → is_set id 24 ≡ mark → reserved id ≡ false
@@ -100,10 +100,10 @@ again id payload false false h e₂₅ e₂₄ z =
     (message_sum id h 0 (bit_is id 7 false e₇) (bit_is id 23 false n.0) (bit_is id 24 false e₂₄) (bit_is id 25 false e₂₅)))
 
 -- READING LOSES NOTHING: the header that was read is sent under the ID that it was read from
-pub made_again : (id : ℕ) (h : Header) (payload : List ℕ) → parsed_can_id id ≡ Parsed h → can_id_of h payload ≡ made (sent_again id payload)
+pub made_again : (id : ℕ) (h : Header) (payload : List ℕ) → parsed_can_id id ≡ Ok h → can_id_of h payload ≡ made (sent_again id payload)
 unfolding parsed_can_id
 made_again id h payload e =
-    let a = first_chosen (leb id greatest_can_id) (said_by id) (NotParsed CanIdTooLarge) (Parsed h) e (λ x. let z : ◌≡◌ {A = ℕ} 0 1 = cc in omega arith) in
-    let b = second_chosen (reserved id) (NotParsed ReservedBit) (Parsed (header_of id)) (Parsed h) a.1 (λ x. let z : ◌≡◌ {A = ℕ} 0 1 = cc in omega arith) in
+    let a = first_chosen (leb id greatest_can_id) (said_by id) (Err CanIdTooLarge) (Ok h) e (λ x. let z : ◌≡◌ {A = ℕ} 0 1 = cc in omega arith) in
+    let b = second_chosen (reserved id) (Err ReservedBit) (Ok (header_of id)) (Ok h) a.1 (λ x. let z : ◌≡◌ {A = ℕ} 0 1 = cc in omega arith) in
     let f : h ≡ header_of id = cc in
     ap (λ (k : Header). can_id_of k payload) f ∙ again id payload (is_set id 25) (is_set id 24) (leb-true _ _ a.0) refl refl b.0

@@ -1,4 +1,5 @@
 -- What a frame of one source does to its cell, whatever cell, frame and bytes these are. Each law goes through the ways in which a frame can go on.
+use Rattle.std.specs.Prelude.{None, Option, Some}
 use Rattle.std.proofs.Common.{◌≡◌, ℕ, ◌+◌, ◌-◌, ◌*◌, ◌<◌, ◌≤◌, min, Bool, true, false, cond, not, ◌&&◌, eqb, List, ◌++◌, length, drop, refl, ap, ◌∙◌, true≢false, arith, length-append, le-leb}
 use lib.Seq.{take-append-le}
 use Rattle.laws.proofs.Choose.{either_way}
@@ -8,10 +9,7 @@ use Rattle.rules.specs.declared.receive.Arrival.{Arrival}
 use Rattle.rules.specs.declared.receive.Part.TheVariants.{OfStore}
 use Rattle.rules.specs.declared.receive.Delivery.{Delivery}
 use Rattle.rules.specs.declared.slots.Session.{Session}
-use Rattle.rules.specs.declared.slots.Open.{Open}
-use Rattle.rules.specs.declared.slots.Open.TheVariants.{Closed, With}
 use Rattle.rules.specs.declared.slots.Slot.{Slot}
-use Rattle.rules.specs.declared.slots.Admitted.{Admitted}
 use Rattle.rules.specs.Limits.{transfer_ids, incremented}
 use Rattle.rules.specs.Slot.{timed_out, with_session, restarted, settled, admitted}
 use Rattle.rules.specs.Session.{opened, session_for, awaits, joined, stored, complete}
@@ -25,27 +23,27 @@ use Rattle.rules.proofs.Store.{put_from}
 
 module _ (P : Turn → Type 0) (slot : Slot) (a : Arrival) where
   -- what holds of a session that stays, of its delivery and of refusal 6 holds of a frame that joined it
-  continued_either : (part : List ℕ) (s : Session) → P (leaves nothing (with_session slot (With s)) part)
+  continued_either : (part : List ℕ) (s : Session) → P (leaves nothing (with_session slot (Some s)) part)
       → P (leaves (delivered_at a s.stamp s.loopback (OfStore 0 (min (length part) (s.total - 2)))) (settled slot s.stamp) part)
-      → P (leaves (refused_by Residue) (with_session slot Closed) part)
+      → P (leaves (refused_by Residue) (with_session slot None) part)
       → P (continued slot part a s)
   unfolding continued ended
   continued_either part s stays delivered refused = either_way P a.tail.end (either_way P (complete s) delivered refused) stays
 
   module _ (part bytes : List ℕ) where
     -- the same of a frame that comes to a session, which may not await it
-    to_session_either : (o : Open) → P (leaves (refused_by NoSession) slot part)
-        → ((s : Session) → P (leaves nothing (with_session slot (With s)) part))
+    to_session_either : (o : Option Session) → P (leaves (refused_by NoSession) slot part)
+        → ((s : Session) → P (leaves nothing (with_session slot (Some s)) part))
         → ((total : ℕ) (s : Session) → P (continued slot (stored total bytes part) a s))
         → P (to_session o slot part a bytes)
     unfolding in_session
-    to_session_either Closed none stays joins = none
-    to_session_either (With s) none stays joins = either_way P (awaits s a) (joins s.total (joined (length part) s bytes)) (stays s)
+    to_session_either None none stays joins = none
+    to_session_either (Some s) none stays joins = either_way P (awaits s a) (joins s.total (joined (length part) s bytes)) (stays s)
 
     -- and of any frame that the ID rule let through
     goes_on_either : P (single slot part a bytes)
         → P (leaves (refused_by NoSession) slot part)
-        → ((s : Session) → P (leaves nothing (with_session slot (With s)) part))
+        → ((s : Session) → P (leaves nothing (with_session slot (Some s)) part))
         → ((total : ℕ) (s : Session) → P (continued slot (stored total bytes part) a s))
         → P (goes_on slot part a bytes)
     unfolding goes_on
@@ -58,7 +56,7 @@ turn_either : (P : Turn → Type 0) (timeout : ℕ) (c : Cell) (a : Arrival) (by
     → P (turn timeout c a bytes)
 unfolding turn admitted
 turn_either P timeout c a bytes repeat on reset =
-    let Q : Admitted → Type 0 = λ r. P (by_id_rule r c a bytes) in
+    let Q : Option Slot → Type 0 = λ r. P (by_id_rule r c a bytes) in
     let id : CanTransferId = a.tail.transfer_id in
     either_way Q (eqb id.0 c.slot.expected.0) on
     (either_way Q (eqb (incremented id).0 c.slot.expected.0) (either_way Q (timed_out timeout c.slot.last_time a.stamp) reset repeat) reset)
@@ -101,7 +99,7 @@ expected_below timeout c a bytes i h =
 module _ (d : Delivery) where
   -- no session, if this is a delivery
   abbrev ClosedIfDelivered : Turn → Type 0
-  ClosedIfDelivered t = t.answer ≡ delivers d → t.cell.slot.session ≡ Closed
+  ClosedIfDelivered t = t.answer ≡ delivers d → t.cell.slot.session ≡ None
 
   not_delivered : {A : Type 0} → nothing ≡ delivers d → A
   not_delivered e = let z : ◌≡◌ {A = ℕ} 0 1 = cc in absurd (omega arith)
@@ -113,30 +111,30 @@ module _ (d : Delivery) where
 
   -- a delivery leaves no session
   pub delivery_closes : (timeout : ℕ) (c : Cell) (a : Arrival) (bytes : List ℕ) → (turn timeout c a bytes).answer ≡ delivers d
-      → (turn timeout c a bytes).cell.slot.session ≡ Closed
+      → (turn timeout c a bytes).cell.slot.session ≡ None
   delivery_closes timeout c a bytes =
       turn_either ClosedIfDelivered timeout c a bytes not_delivered (goes_on_closed c.slot c.part a bytes)
       (goes_on_closed (restarted c.slot a.tail.transfer_id) c.part a bytes)
 
 -- the part as it was, and no session
 abbrev Stays : List ℕ → Turn → Type 0
-Stays part t = (t.cell.part ≡ part) × (t.cell.slot.session ≡ Closed)
+Stays part t = (t.cell.part ≡ part) × (t.cell.slot.session ≡ None)
 
-goes_on_stays : (slot : Slot) (part : List ℕ) (a : Arrival) (bytes : List ℕ) → slot.session ≡ Closed → (a.tail.start && not a.tail.end) ≡ false
+goes_on_stays : (slot : Slot) (part : List ℕ) (a : Arrival) (bytes : List ℕ) → slot.session ≡ None → (a.tail.start && not a.tail.end) ≡ false
     → Stays part (goes_on slot part a bytes)
 unfolding goes_on
-goes_on_stays slot part a bytes h = go a.tail.start a.tail.end (session_for slot.session a) (ap (λ (o : Open). session_for o a) h)
+goes_on_stays slot part a bytes h = go a.tail.start a.tail.end (session_for slot.session a) (ap (λ (o : Option Session). session_for o a) h)
   where
-    go : (start end : Bool) (o : Open) → o ≡ cond start (With (opened a)) Closed → (start && not end) ≡ false
+    go : (start end : Bool) (o : Option Session) → o ≡ cond start (Some (opened a)) None → (start && not end) ≡ false
         → Stays part (cond (start && end) (single slot part a bytes) (to_session o slot part a bytes))
     go true true o q e = (refl, refl)
     go true false o q e = absurd (true≢false e)
-    go false end Closed q e = (refl, h)
-    go false end (With s) q e = let z : ◌≡◌ {A = ℕ} 0 1 = cc in absurd (omega arith)
+    go false end None q e = (refl, h)
+    go false end (Some s) q e = let z : ◌≡◌ {A = ℕ} 0 1 = cc in absurd (omega arith)
 
 -- and without one, a frame that opens none leaves the part as it was, and no session: so a delivery's bytes stay until the source's next session
-pub part_stays : (timeout : ℕ) (c : Cell) (a : Arrival) (bytes : List ℕ) → c.slot.session ≡ Closed → (a.tail.start && not a.tail.end) ≡ false
-    → ((turn timeout c a bytes).cell.part ≡ c.part) × ((turn timeout c a bytes).cell.slot.session ≡ Closed)
+pub part_stays : (timeout : ℕ) (c : Cell) (a : Arrival) (bytes : List ℕ) → c.slot.session ≡ None → (a.tail.start && not a.tail.end) ≡ false
+    → ((turn timeout c a bytes).cell.part ≡ c.part) × ((turn timeout c a bytes).cell.slot.session ≡ None)
 part_stays timeout c a bytes h e =
     turn_either (Stays c.part) timeout c a bytes (refl, h) (goes_on_stays c.slot c.part a bytes h e)
     (goes_on_stays (restarted c.slot a.tail.transfer_id) c.part a bytes refl e)

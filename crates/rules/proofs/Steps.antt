@@ -1,5 +1,6 @@
 -- THE STEPS OF A TRANSFER, one equation for the answer and for what the frame leaves: what a frame does to the cell of its source, by the role that it has. A
 -- session is named by the bytes that came (`session_of`, `laid`), so each equation follows from the ID rule's outcome and from how bytes join.
+use Rattle.std.specs.Prelude.{None, Option, Some}
 use Rattle.std.proofs.Common.{◌≡◌, ℕ, ◌+◌, ◌-◌, ◌%◌, ◌≤◌, min, Bool, true, false, not, ◌&&◌, List, ◌++◌, length, refl, ap, ◌∙◌, arith, eq-eqb, le-leb}
 use mathlib.Core.Bool.{beq}
 use Rattle.laws.specs.Laid.{laid}
@@ -7,14 +8,8 @@ use Rattle.rules.specs.declared.refusal.Refusal.TheVariants.{NoSession}
 use Rattle.rules.specs.declared.header.Header.{Header}
 use Rattle.rules.specs.declared.receive.Arrival.{Arrival}
 use Rattle.rules.specs.declared.receive.Part.TheVariants.{OfFrame, OfStore}
-use Rattle.rules.specs.declared.slots.LastTime.{LastTime}
-use Rattle.rules.specs.declared.slots.LastTime.TheVariants.{At}
-use Rattle.rules.specs.declared.slots.Open.{Open}
-use Rattle.rules.specs.declared.slots.Open.TheVariants.{Closed, With}
 use Rattle.rules.specs.declared.slots.Session.{Session as TheSession}
 use Rattle.rules.specs.declared.slots.Slot.{Slot}
-use Rattle.rules.specs.declared.slots.Admitted.{Admitted}
-use Rattle.rules.specs.declared.slots.Admitted.TheVariants.{On}
 use Rattle.rules.specs.Limits.{transfer_ids}
 use Rattle.rules.specs.Crc.{crc}
 use Rattle.rules.specs.Slot.{restarted, admitted}
@@ -36,26 +31,26 @@ arrival header stamp loopback id start end toggle = record {
 
 -- the slot after a delivery of this ID under this stamp
 abbrev pub delivered : ℕ → ℕ → Slot
-delivered id stamp = record { expected = record { 0 = (id + 1) % transfer_ids }; last_time = At stamp; session = Closed }
+delivered id stamp = record { expected = record { 0 = (id + 1) % transfer_ids }; last_time = Some stamp; session = None }
 
 -- a cell in which a transfer is under way: these bytes came, and this part was there before
-abbrev pub under_way : ℕ → LastTime → ℕ → Bool → Bool → List ℕ → List ℕ → Cell
+abbrev pub under_way : ℕ → Option ℕ → ℕ → Bool → Bool → List ℕ → List ℕ → Cell
 under_way id last stamp loopback toggle came part = record {
-  slot = record { expected = record { 0 = id }; last_time = last; session = With (session_of (length part) stamp loopback toggle came) };
+  slot = record { expected = record { 0 = id }; last_time = last; session = Some (session_of (length part) stamp loopback toggle came) };
   part = laid came part;
 }
 
 -- a slot that a first frame with this ID can open a session in: none is open, or another ID is expected
 abbrev pub Free : ℕ → Slot → Type 0
-Free id slot = id ≡ slot.expected.0 → slot.session ≡ Closed
+Free id slot = id ≡ slot.expected.0 → slot.session ≡ None
 
 -- so it is where the frame meets no open session
 pub meets_none : (slot : Slot) (id : ℕ) → ((s : TheSession) → MeetsSession slot id s → ⊥) → Free id slot
 meets_none slot id none q = go slot.session refl
   where
-    go : (o : Open) → slot.session ≡ o → o ≡ Closed
-    go Closed e = refl
-    go (With s) e = absurd (none s (record { expected = omega (arith, q); running = e }))
+    go : (o : Option TheSession) → slot.session ≡ o → o ≡ None
+    go None e = refl
+    go (Some s) e = absurd (none s (record { expected = omega (arith, q); running = e }))
 
 beq_self : (b : Bool) → beq b b ≡ true
 beq_self true = refl
@@ -73,13 +68,13 @@ module _ (timeout : ℕ) (c : Cell) (a : Arrival) (bytes : List ℕ) where
   -- A REPEAT CHANGES NOTHING, and is answered nothing
   pub repeat_passes : IsRepeat timeout c.slot a.tail.transfer_id.0 a.stamp → turn timeout c a bytes ≡ record { answer = nothing; cell = c }
   unfolding turn
-  repeat_passes r = ap (λ (x : Admitted). by_id_rule x c a bytes) (repeat_admitted timeout c.slot a.tail.transfer_id.0 a.stamp r)
+  repeat_passes r = ap (λ (x : Option Slot). by_id_rule x c a bytes) (repeat_admitted timeout c.slot a.tail.transfer_id.0 a.stamp r)
 
 -- a free slot that is no repeat's goes on without a session, and expects the frame's ID
 pub free_admitted : (timeout : ℕ) (slot : Slot) (id stamp : ℕ) → (IsRepeat timeout slot id stamp → ⊥) → Free id slot
-    → admitted timeout slot (record { 0 = id }) stamp ≡ On (restarted slot (record { 0 = id }))
+    → admitted timeout slot (record { 0 = id }) stamp ≡ Some (restarted slot (record { 0 = id }))
 free_admitted timeout slot id stamp new free =
-    id_rule timeout slot id stamp (λ x. x ≡ On (restarted slot (record { 0 = id }))) (λ r. absurd (new r)) (λ _ q. rw (q, free q) refl) (λ _ q. refl)
+    id_rule timeout slot id stamp (λ x. x ≡ Some (restarted slot (record { 0 = id }))) (λ r. absurd (new r)) (λ _ q. rw (q, free q) refl) (λ _ q. refl)
 
 module _ (timeout : ℕ) (c : Cell) (h : Header) (stamp : ℕ) (loopback : Bool) (id : ℕ) (bytes : List ℕ) where
   -- THE FIRST OF SEVERAL FRAMES OPENS a session under its stamp, in which its bytes are what came; the second toggle is awaited
@@ -110,19 +105,19 @@ module _ (timeout : ℕ) (c : Cell) (h : Header) (stamp : ℕ) (loopback : Bool)
 -- ---- a transfer under way
 
 -- a slot goes on where a frame has the ID that it expects
-expected_admitted : (timeout : ℕ) (slot : Slot) (stamp : ℕ) → admitted timeout slot slot.expected stamp ≡ On slot
+expected_admitted : (timeout : ℕ) (slot : Slot) (stamp : ℕ) → admitted timeout slot slot.expected stamp ≡ Some slot
 unfolding admitted
 expected_admitted timeout slot stamp = rw (eq-eqb slot.expected.0 slot.expected.0 refl) refl
 
 -- a frame that the session does not await changes nothing, if it is not a whole transfer
-pub unawaited_passes : (timeout : ℕ) (c : Cell) (s : TheSession) (a : Arrival) (bytes : List ℕ) → c.slot.session ≡ With s
+pub unawaited_passes : (timeout : ℕ) (c : Cell) (s : TheSession) (a : Arrival) (bytes : List ℕ) → c.slot.session ≡ Some s
     → a.tail.transfer_id ≡ c.slot.expected → (a.tail.start && a.tail.end) ≡ false → awaits s a ≡ false
     → turn timeout c a bytes ≡ record { answer = nothing; cell = c }
 unfolding turn goes_on in_session
 unawaited_passes timeout c s a bytes running same several other =
     rw (same, expected_admitted timeout c.slot a.stamp, several, running, other) (rw (← running) refl)
 
-module _ (timeout : ℕ) (h : Header) (now : ℕ) (id : ℕ) (last : LastTime) (stamp : ℕ) (loopback toggle : Bool) (came part : List ℕ) where
+module _ (timeout : ℕ) (h : Header) (now : ℕ) (id : ℕ) (last : Option ℕ) (stamp : ℕ) (loopback toggle : Bool) (came part : List ℕ) where
   abbrev c : Cell
   c = under_way id last stamp loopback toggle came part
 

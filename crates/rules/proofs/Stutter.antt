@@ -1,9 +1,9 @@
 -- EACH FRAME AGAIN RIGHT AFTER ITSELF: a transfer whose frames all stutter is delivered once. A copy of any frame but the last is not awaited by the session that
 -- the frame left, since the start bit or the toggle is another; and the copy of the last meets the slot of a delivery, at which it is a repeat if it is in time.
+use Rattle.std.specs.Prelude.{Option}
 use Rattle.std.proofs.Common.{◌≡◌, ℕ, zero, suc, ◌-◌, ◌*◌, ◌<◌, ◌≤◌, Bool, true, false, not, List, [], ◌∷◌, ◌++◌, length, take, drop, replicate, refl, ap, ◌∙◌, subst, ⊎_elim, arith, take-append-drop}
 use Rattle.laws.proofs.Choose.{at_most_or_above}
 use Rattle.rules.specs.declared.subscription.Settings.{Settings}
-use Rattle.rules.specs.declared.slots.LastTime.{LastTime}
 use Rattle.rules.specs.declared.slots.Slot.{Slot}
 use Rattle.rules.specs.Limits.{greatest_frame, room_of}
 use Rattle.rules.specs.Crc.{crc_start}
@@ -37,7 +37,7 @@ module _ (s : Settings) (n : ℕ) (t : Sent) (to : SentTo s.port n t) (begin : �
       (sent_next s n t to begin c now bytes start true toggle fits _
       (repeat_passes s.timeout c (arrival t.header now t.loopback t.transfer_id start true toggle) bytes (delivered_again s.timeout t.transfer_id stamp now y)) [])
 
-  module _ (last : LastTime) (stamp : ℕ) (part : List ℕ) where
+  module _ (last : Option ℕ) (stamp : ℕ) (part : List ℕ) where
     abbrev running : Bool → List ℕ → Cell
     running = sofar s n t to begin last stamp part
 

@@ -1,15 +1,13 @@
 -- Worked answers of the receiver that the bench sheet does not have, by computation: the order in which a frame is judged, which frames are ours, anonymous frames,
 -- making, and a session that no run leaves.
+use Rattle.std.specs.Prelude.{Err, None, Ok, Some}
 use Rattle.std.proofs.Common.{◌≡◌, ℕ, true, false, List, [], ◌∷◌, replicate, refl}
 use Rattle.rules.specs.declared.refusal.Refusal.TheVariants.{ExtentTooLarge, Field}
 use Rattle.rules.specs.declared.receive.Part.TheVariants.{OfFrame}
-use Rattle.rules.specs.declared.slots.LastTime.TheVariants.{Never}
-use Rattle.rules.specs.declared.slots.Open.TheVariants.{With}
 use Rattle.rules.specs.declared.slots.Slot.{Slot as TheSlot}
 use Rattle.rules.specs.declared.subscription.ServicePort.{ServicePort}
 use Rattle.rules.specs.declared.subscription.Port.{Port}
 use Rattle.rules.specs.declared.subscription.Port.TheVariants.{Message, Request, Response}
-use Rattle.rules.specs.declared.subscription.Subscribing.TheVariants.{Made, Refused}
 use Rattle.rules.specs.CanId.{parsed_can_id, header_of}
 use Rattle.rules.specs.Slot.{admitted}
 use Rattle.rules.specs.Session.{joined, stored}
@@ -58,16 +56,16 @@ anonymous_uncut = refl
 
 -- making is refused by 12, then 8
 pub order_of_making :
-    (made (Message (record { 0 = 8192 })) 0 1025 ≡ Refused Field) × (made (Message (record { 0 = 8191 })) 0 1025 ≡ Refused ExtentTooLarge)
-    × (made (Message (record { 0 = 8191 })) 0 1024 ≡ Made (record { port = Message (record { 0 = 8191 }); timeout = 0; extent = 1024 }))
+    (made (Message (record { 0 = 8192 })) 0 1025 ≡ Err Field) × (made (Message (record { 0 = 8191 })) 0 1025 ≡ Err ExtentTooLarge)
+    × (made (Message (record { 0 = 8191 })) 0 1024 ≡ Ok (record { port = Message (record { 0 = 8191 }); timeout = 0; extent = 1024 }))
 order_of_making = (refl, refl, refl)
 
 -- a slot whose session has residue 0 and fewer than two bytes, as no run leaves it
 abbrev short : TheSlot
 short = record {
   expected = record { 0 = 0 };
-  last_time = Never;
-  session = With (record { stamp = 0; loopback = false; expect_start = false; expect_toggle = true; crc = 0; total = 0 });
+  last_time = None;
+  session = Some (record { stamp = 0; loopback = false; expect_start = false; expect_toggle = true; crc = 0; total = 0 });
 }
 
 -- at the end bit it is refused by 6 all the same

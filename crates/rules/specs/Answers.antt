@@ -1,12 +1,12 @@
 -- What a receiver answers, in document 01's numbers and values, and the bytes that an answer shows. Document 01: "In a delivery the bytes lie either in the frame
 -- or in the store .. An answer asked for bytes it doesn't name, or that don't fit, shows an empty part."
-use Rattle.std.specs.Prelude.{ℕ, cond, List, [], length, take, drop, nat_le}
+use Rattle.std.specs.Prelude.{ℕ, cond, List, [], length, take, drop, nat_le, Err, Ok, Result}
 use Rattle.rules.specs.declared.refusal.Refusal.{Refusal}
 use Rattle.rules.specs.declared.receive.Part.{Part}
 use Rattle.rules.specs.declared.receive.Part.TheVariants.{OfFrame, OfStore}
 use Rattle.rules.specs.declared.receive.Delivery.{Delivery}
 use Rattle.rules.specs.declared.receive.Received.{Received}
-use Rattle.rules.specs.declared.receive.Received.TheVariants.{Delivered, Nothing, NotOurs, Refused}
+use Rattle.rules.specs.declared.receive.Received.TheVariants.{Delivered, Nothing, NotOurs}
 use Rattle.rules.specs.Refusals.{number_of}
 
 -- a delivery, nothing, "not ours", or a refusal by its number
@@ -17,11 +17,11 @@ pub data Answer : Type 0 where
   refuses : ℕ → Answer
 
 -- the answer that each case of the enum stands for
-abbrev pub answer_of : Received → Answer
-answer_of (Delivered d) = delivers d
-answer_of Nothing = nothing
-answer_of NotOurs = not_ours
-answer_of (Refused r) = refuses (number_of r)
+abbrev pub answer_of : Result Received Refusal → Answer
+answer_of (Ok (Delivered d)) = delivers d
+answer_of (Ok Nothing) = nothing
+answer_of (Ok NotOurs) = not_ours
+answer_of (Err r) = refuses (number_of r)
 
 -- a refusal by the name that its number has
 abbrev pub refused_by : Refusal → Answer

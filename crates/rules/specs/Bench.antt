@@ -1,15 +1,14 @@
 -- The bench sheet of document 01: ONE table, with a row for each thing that a case marked P says, and three rows for what the document says elsewhere of such
 -- frames. `book` is what the definitions of this book answer, `sheet` what the sheet says. The one claim about the table, that the two columns are equal, is proved
 -- by computation in proofs/Bench.antt.
-use Rattle.std.specs.Prelude.{ℕ, ◌-◌, ◌*◌, true, false, List, [], ◌∷◌, map, length, get_or, drop, replicate, slice_index_or}
+use Rattle.std.specs.Prelude.{ℕ, ◌-◌, ◌*◌, true, false, List, [], ◌∷◌, map, length, get_or, drop, replicate, slice_index_or, Ok, Result, Some}
+use Rattle.rules.specs.declared.data.CanId.{CanId}
+use Rattle.rules.specs.declared.refusal.Refusal.{Refusal}
 use Rattle.rules.specs.declared.data.Mtu.{Mtu}
 use Rattle.rules.specs.declared.data.Mtu.TheVariants.{Can8, CanFd64}
-use Rattle.rules.specs.declared.header.Source.TheVariants.{Node}
 use Rattle.rules.specs.declared.header.ServiceHeader.{ServiceHeader}
 use Rattle.rules.specs.declared.header.Header.{Header}
 use Rattle.rules.specs.declared.header.Header.TheVariants.{Message, Request, Response}
-use Rattle.rules.specs.declared.header.MadeCanId.{MadeCanId}
-use Rattle.rules.specs.declared.header.MadeCanId.TheVariants.{Made}
 use Rattle.rules.specs.declared.subscription.Port.TheVariants.{Message as Messages}
 use Rattle.rules.specs.declared.subscription.Settings.{Settings}
 use Rattle.rules.specs.Limits.{nodes}
@@ -34,7 +33,7 @@ pub data Said : Type 0 where
 pub data Shown : Type 0 where
   number : ℕ → Shown
   bytes : List (List ℕ) → Shown
-  can_id : MadeCanId → Shown
+  can_id : Result CanId Refusal → Shown
   answers : List Said → Shown
 
 pub record Row : Type 0 where
@@ -54,13 +53,13 @@ last_length u p = length (slice_index_or (zeros u p) (frames u p - 1) [])
 
 -- case 4's headers
 abbrev message : Header
-message = Message (record { priority = record { 0 = 4 }; subject = record { 0 = 256 }; source = Node (record { 0 = 42 }) })
+message = Message (record { priority = record { 0 = 4 }; subject = record { 0 = 256 }; source = Some (record { 0 = 42 }) })
 
 abbrev pub service : ServiceHeader
-service = record { priority = record { 0 = 1 }; service = record { 0 = 430 }; destination = record { 0 = 5 }; source = Node (record { 0 = 9 }) }
+service = record { priority = record { 0 = 1 }; service = record { 0 = 430 }; destination = record { 0 = 5 }; source = Some (record { 0 = 9 }) }
 
 abbrev id : ℕ → Shown
-id n = can_id (Made (record { 0 = n }))
+id n = can_id (Ok (record { 0 = n }))
 
 -- ---- what comes to fresh slots: a subscription to case 4's messages, with an extent of two bytes
 

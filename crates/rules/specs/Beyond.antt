@@ -1,16 +1,11 @@
 -- Beyond demand 3: that the receiver's rule has document 01's two exceptions and no other, what a slot is after a delivery, how long delivered bytes stay, and
 -- what the cable's habit of sending twice comes to. All but the first is said of whoever receives, as demand 3 is: by what is heard after a history, the source's
 -- slot then, and the store.
-use Rattle.std.specs.Prelude.{◌≡◌, ℕ, suc, ◌+◌, ◌-◌, ◌*◌, ◌%◌, ◌^◌, ◌<◌, ◌≤◌, Bool, true, false, cond, not, ◌&&◌, ◌↔◌, List, [], ◌∷◌, ◌++◌, map, length, drop, replicate}
+use Rattle.std.specs.Prelude.{◌≡◌, ℕ, suc, ◌+◌, ◌-◌, ◌*◌, ◌%◌, ◌^◌, ◌<◌, ◌≤◌, Bool, true, false, cond, not, ◌&&◌, ◌↔◌, List, [], ◌∷◌, ◌++◌, map, length, drop, replicate, None, Option, Some}
 use Rattle.rules.specs.declared.receive.Arrival.{Arrival}
 use Rattle.rules.specs.declared.subscription.Settings.{Settings}
-use Rattle.rules.specs.declared.slots.LastTime.TheVariants.{At}
 use Rattle.rules.specs.declared.slots.Session.{Session}
-use Rattle.rules.specs.declared.slots.Open.{Open}
-use Rattle.rules.specs.declared.slots.Open.TheVariants.{Closed, With}
 use Rattle.rules.specs.declared.slots.Slot.{Slot}
-use Rattle.rules.specs.declared.slots.Admitted.{Admitted}
-use Rattle.rules.specs.declared.slots.Admitted.TheVariants.{Repeat, On}
 use Rattle.rules.specs.Limits.{nodes}
 use Rattle.rules.specs.TailByte.{parsed_tail}
 use Rattle.rules.specs.Plan.{frames}
@@ -42,13 +37,13 @@ pub data WhereTo : Type 0 where
   own : WhereTo
 
 -- that is read off the rule: off the ID rule's verdict, and off the session in the slot that goes on
-abbrev pub to_open : Open → WhereTo
-to_open (With s) = older s
-to_open Closed = own
+abbrev pub to_open : Option Session → WhereTo
+to_open (Some s) = older s
+to_open None = own
 
-abbrev pub to_admitted : Admitted → WhereTo
-to_admitted Repeat = nowhere
-to_admitted (On slot) = to_open slot.session
+abbrev pub to_admitted : Option Slot → WhereTo
+to_admitted None = nowhere
+to_admitted (Some slot) = to_open slot.session
 
 abbrev pub where_to : ℕ → Slot → Sent → WhereTo
 where_to timeout slot t = to_admitted (admitted timeout slot (record { 0 = t.transfer_id }) (t.at 0))
@@ -57,7 +52,7 @@ where_to timeout slot t = to_admitted (admitted timeout slot (record { 0 = t.tra
 pub record LeftOf (extent : ℕ) (s : Session) (a : Arrival) (bytes : List ℕ) (x : Turn) : Type 0 where
   pub quiet : x.answer ≡ nothing
   pub left : Session
-  pub running : x.cell.slot.session ≡ With left
+  pub running : x.cell.slot.session ≡ Some left
   -- the bytes join s if it awaits this frame, and if not s stays as it was
   pub joins : left ≡ cond (awaits s a) (joined extent s bytes) s
   -- either way the stamp and the loopback flag are those that s had
@@ -105,7 +100,7 @@ pub record Arrives (s : Settings) (n : ℕ) (slot : Slot) (t : Sent) (fs : List 
 pub record Settles (s : Settings) (n : ℕ) (slot : List Frame → Slot) : Type 0 where
   -- the slot expects the next ID, has the time of the transfer's FIRST frame, and no session
   pub settled : (history fs : List Frame) (t : Sent) → Arrives s n (slot history) t fs
-      → slot (history ++ fs) ≡ record { expected = record { 0 = (t.transfer_id + 1) % 32 }; last_time = At (t.at 0); session = Closed }
+      → slot (history ++ fs) ≡ record { expected = record { 0 = (t.transfer_id + 1) % 32 }; last_time = Some (t.at 0); session = None }
   -- a resend in time is then a repeat
   pub again : (history fs : List Frame) (t : Sent) → Arrives s n (slot history) t fs → (stamp : ℕ) → Young s.timeout (t.at 0) stamp
       → IsRepeat s.timeout (slot (history ++ fs)) t.transfer_id stamp
@@ -125,7 +120,7 @@ NoneOpens (f ∷ fs) = (opens f ≡ false) × NoneOpens fs
 
 pub record Stays (s : Settings) (n : ℕ) (slot : List Frame → Slot) (store : List Frame → List ℕ) : Type 0 where
   -- where source n has no session, as after a delivery, its part stays as it is until a frame of its own can open one
-  pub part : (history fs : List Frame) → (slot history).session ≡ Closed → NoneOpens (only s.port n fs)
+  pub part : (history fs : List Frame) → (slot history).session ≡ None → NoneOpens (only s.port n fs)
       → part_of s.extent n (store (history ++ fs)) ≡ part_of s.extent n (store history)
   -- bytes behind the 128 parts never change
   pub beyond : (history fs : List Frame) → drop (nodes * s.extent) (store (history ++ fs)) ≡ drop (nodes * s.extent) (store history)

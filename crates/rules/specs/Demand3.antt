@@ -1,17 +1,13 @@
 -- DEMAND 3, what the school asked for: each scan is handed over exactly once, whatever else is on the cable. It is said of the receiver's rule (`received`) over
 -- histories: after any history, of any frames at all, a transfer by the published rule is delivered once, at its last frame, unless one of document 01's two
 -- exceptions holds at its first frame; and no source can disturb another.
-use Rattle.std.specs.Prelude.{◌≡◌, ℕ, suc, ◌+◌, ◌-◌, ◌%◌, ◌^◌, ◌<◌, ◌≤◌, Bool, true, List, [], ◌∷◌, ◌++◌, map, length, take, replicate}
+use Rattle.std.specs.Prelude.{◌≡◌, ℕ, suc, ◌+◌, ◌-◌, ◌%◌, ◌^◌, ◌<◌, ◌≤◌, Bool, true, List, [], ◌∷◌, ◌++◌, map, length, take, replicate, Ok, Some}
 use Rattle.rules.specs.declared.data.Mtu.{Mtu}
 use Rattle.rules.specs.declared.types.CanTransferId.{CanTransferId}
-use Rattle.rules.specs.declared.header.Source.TheVariants.{Node}
 use Rattle.rules.specs.declared.header.Header.{Header}
-use Rattle.rules.specs.declared.header.ParsedCanId.TheVariants.{Parsed}
 use Rattle.rules.specs.declared.subscription.Port.{Port}
 use Rattle.rules.specs.declared.subscription.Settings.{Settings}
-use Rattle.rules.specs.declared.slots.LastTime.TheVariants.{At}
 use Rattle.rules.specs.declared.slots.Session.{Session}
-use Rattle.rules.specs.declared.slots.Open.TheVariants.{With}
 use Rattle.rules.specs.declared.slots.Slot.{Slot}
 use Rattle.rules.specs.Limits.{transfer_ids, room_of}
 use Rattle.rules.specs.CanId.{parsed_can_id}
@@ -26,9 +22,9 @@ use Rattle.rules.specs.Histories.{Told, hears_after, replies, run, is_from, has_
 
 -- a CAN ID under which source n sends to this port, and the header that it says
 pub record Addressed (port : Port) (n id : ℕ) (h : Header) : Type 0 where
-  pub read : parsed_can_id id ≡ Parsed h
+  pub read : parsed_can_id id ≡ Ok h
   pub wanted : wants port h ≡ true
-  pub source : source_in h ≡ Node record { 0 = n }
+  pub source : source_in h ≡ Some record { 0 = n }
 
 -- frames with these bytes as they arrive: frame k at the time at k
 abbrev pub arriving : ℕ → Bool → (ℕ → ℕ) → List (List ℕ) → List Frame
@@ -60,14 +56,14 @@ pub record SentTo (port : Port) (n : ℕ) (t : Sent) : Type 0 where
 pub record IsRepeat (timeout : ℕ) (slot : Slot) (id stamp : ℕ) : Type 0 where
   pub before : (id + 1) % 32 ≡ slot.expected.0
   pub last : ℕ
-  pub seen : slot.last_time ≡ At last
+  pub seen : slot.last_time ≡ Some last
   pub counts : (stamp + 2 ^ 32 - last) % 2 ^ 32 < 2 ^ 31
   pub young : (stamp + 2 ^ 32 - last) % 2 ^ 32 ≤ timeout
 
 -- a frame meets the session s: s is open, and it is the frame's ID that is expected
 pub record MeetsSession (slot : Slot) (id : ℕ) (s : Session) : Type 0 where
   pub expected : id ≡ slot.expected.0
-  pub running : slot.session ≡ With s
+  pub running : slot.session ≡ Some s
 
 -- neither holds at the first frame of a transfer: it is no repeat; and if it needs a session, for there are several frames, it meets none that is open
 pub record NoException (timeout : ℕ) (t : Sent) (slot : Slot) : Type 0 where

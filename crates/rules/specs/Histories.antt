@@ -1,12 +1,11 @@
 -- Histories: frames that come one after the other, and what one source hears of them. The caller lends the same store at each call and writes nothing in it
 -- between; an answer's bytes are read at once, from the frame and from the store as the call left it.
-use Rattle.std.specs.Prelude.{ℕ, ◌%◌, Bool, true, false, cond, List, [], ◌∷◌, ◌==◌}
-use Rattle.rules.specs.declared.header.Source.{Source}
-use Rattle.rules.specs.declared.header.Source.TheVariants.{Node, Anonymous}
+use Rattle.std.specs.Prelude.{ℕ, ◌%◌, Bool, true, false, cond, List, [], ◌∷◌, ◌==◌, None, Option, Some, Err, Ok, Result}
+use Rattle.rules.specs.declared.receive.Arrival.{Arrival}
+use Rattle.rules.specs.declared.refusal.Refusal.{Refusal}
+use Rattle.rules.specs.declared.types.CanNodeId.{CanNodeId}
 use Rattle.rules.specs.declared.subscription.Port.{Port}
 use Rattle.rules.specs.declared.subscription.Settings.{Settings}
-use Rattle.rules.specs.declared.receive.Reading.{Reading}
-use Rattle.rules.specs.declared.receive.Reading.TheVariants.{Ours, NotOurs, Refused}
 use Rattle.rules.specs.Limits.{nodes}
 use Rattle.rules.specs.Frames.{Frame}
 use Rattle.rules.specs.Answers.{Answer, shown}
@@ -58,14 +57,14 @@ told s w fs = heard_by (λ f. true) s w fs
 
 -- ---- one source among others
 
-abbrev pub is_node : ℕ → Source → Bool
-is_node n (Node m) = m.0 == n
-is_node n Anonymous = false
+abbrev pub is_node : ℕ → Option CanNodeId → Bool
+is_node n (Some m) = m.0 == n
+is_node n None = false
 
-abbrev pub read_from : ℕ → Reading → Bool
-read_from n (Ours a) = is_node n (source_in a.header)
-read_from n NotOurs = false
-read_from n (Refused r) = false
+abbrev pub read_from : ℕ → Result (Option Arrival) Refusal → Bool
+read_from n (Ok (Some a)) = is_node n (source_in a.header)
+read_from n (Ok None) = false
+read_from n (Err r) = false
 
 -- a good frame of source n for this subscription
 unfoldable pub is_from : Port → ℕ → Frame → Bool

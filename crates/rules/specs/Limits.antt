@@ -1,25 +1,16 @@
 -- The kinds of number and their limits. Document 01: "Named limits belong to their own kinds of number: priority 0 to 7, subject 0 to 8191, service 0 to 511,
 -- node 0 to 127, transfer ID 0 to 31." A CAN ID has 29 bits. MTU 8 or 64; payload and extent 0 to 1,024 bytes; queue capacity 0 to 256 frames.
-use Rattle.std.specs.Prelude.{ℕ, ◌+◌, ◌-◌, ◌%◌, ◌^◌, Bool, cond, ◌==◌, nat_le}
+use Rattle.std.specs.Prelude.{ℕ, ◌+◌, ◌-◌, ◌%◌, ◌^◌, Bool, cond, ◌==◌, nat_le, Err, Ok, Result}
+use Rattle.rules.specs.declared.data.CanId.{CanId}
+use Rattle.rules.specs.declared.types.Priority.{Priority}
+use Rattle.rules.specs.declared.refusal.Refusal.{Refusal}
+use Rattle.rules.specs.declared.types.ServiceId.{ServiceId}
+use Rattle.rules.specs.declared.types.SubjectId.{SubjectId}
 use Rattle.rules.specs.declared.refusal.Refusal.TheVariants.{CanId as CanIdTooLarge, Field, Mtu as WrongMtu}
 use Rattle.rules.specs.declared.types.CanNodeId.{CanNodeId}
 use Rattle.rules.specs.declared.types.CanTransferId.{CanTransferId}
-use Rattle.rules.specs.declared.types.TriedPriority.{TriedPriority}
-use Rattle.rules.specs.declared.types.TriedPriority.TheVariants.{Valid as ValidPriority, Refused as NoPriority}
-use Rattle.rules.specs.declared.types.TriedSubjectId.{TriedSubjectId}
-use Rattle.rules.specs.declared.types.TriedSubjectId.TheVariants.{Valid as ValidSubject, Refused as NoSubject}
-use Rattle.rules.specs.declared.types.TriedServiceId.{TriedServiceId}
-use Rattle.rules.specs.declared.types.TriedServiceId.TheVariants.{Valid as ValidService, Refused as NoService}
-use Rattle.rules.specs.declared.types.TriedCanNodeId.{TriedCanNodeId}
-use Rattle.rules.specs.declared.types.TriedCanNodeId.TheVariants.{Valid as ValidNode, Refused as NoNode}
-use Rattle.rules.specs.declared.types.TriedCanTransferId.{TriedCanTransferId}
-use Rattle.rules.specs.declared.types.TriedCanTransferId.TheVariants.{Valid as ValidTransferId, Refused as NoTransferId}
-use Rattle.rules.specs.declared.data.TriedCanId.{TriedCanId}
-use Rattle.rules.specs.declared.data.TriedCanId.TheVariants.{Valid as ValidCanId, Refused as NoCanId}
 use Rattle.rules.specs.declared.data.Mtu.{Mtu}
 use Rattle.rules.specs.declared.data.Mtu.TheVariants.{Can8, CanFd64}
-use Rattle.rules.specs.declared.data.TriedMtu.{TriedMtu}
-use Rattle.rules.specs.declared.data.TriedMtu.TheVariants.{Valid as ValidMtu, Refused as NoMtu}
 
 abbrev pub greatest_priority : ℕ
 greatest_priority = 7
@@ -58,26 +49,30 @@ transfer_ids = greatest_transfer_id + 1
 abbrev pub nodes : ℕ
 nodes = greatest_node + 1
 
--- ---- a number as its kind, or refusal 12 where it is over the kind's greatest
+-- ---- a number as its kind, or a refusal where it is over the kind's greatest
 
-abbrev pub tried_priority : ℕ → TriedPriority
-tried_priority n = cond (nat_le n greatest_priority) (ValidPriority (record { 0 = n })) (NoPriority Field)
+abbrev pub within : {A : Type 0} → Refusal → ℕ → ℕ → A → Result A Refusal
+within over greatest n kind = cond (nat_le n greatest) (Ok kind) (Err over)
 
-abbrev pub tried_subject : ℕ → TriedSubjectId
-tried_subject n = cond (nat_le n greatest_subject) (ValidSubject (record { 0 = n })) (NoSubject Field)
+-- refusal 12 for all kinds but one
+abbrev pub tried_priority : ℕ → Result Priority Refusal
+tried_priority n = within Field greatest_priority n (record { 0 = n })
 
-abbrev pub tried_service : ℕ → TriedServiceId
-tried_service n = cond (nat_le n greatest_service) (ValidService (record { 0 = n })) (NoService Field)
+abbrev pub tried_subject : ℕ → Result SubjectId Refusal
+tried_subject n = within Field greatest_subject n (record { 0 = n })
 
-abbrev pub tried_node : ℕ → TriedCanNodeId
-tried_node n = cond (nat_le n greatest_node) (ValidNode (record { 0 = n })) (NoNode Field)
+abbrev pub tried_service : ℕ → Result ServiceId Refusal
+tried_service n = within Field greatest_service n (record { 0 = n })
 
-abbrev pub tried_transfer_id : ℕ → TriedCanTransferId
-tried_transfer_id n = cond (nat_le n greatest_transfer_id) (ValidTransferId (record { 0 = n })) (NoTransferId Field)
+abbrev pub tried_node : ℕ → Result CanNodeId Refusal
+tried_node n = within Field greatest_node n (record { 0 = n })
+
+abbrev pub tried_transfer_id : ℕ → Result CanTransferId Refusal
+tried_transfer_id n = within Field greatest_transfer_id n (record { 0 = n })
 
 -- a CAN ID of 2^29 or more is refusal 1
-abbrev pub tried_can_id : ℕ → TriedCanId
-tried_can_id n = cond (nat_le n greatest_can_id) (ValidCanId (record { 0 = n })) (NoCanId CanIdTooLarge)
+abbrev pub tried_can_id : ℕ → Result CanId Refusal
+tried_can_id n = within CanIdTooLarge greatest_can_id n (record { 0 = n })
 
 -- ---- steps
 
@@ -105,5 +100,5 @@ abbrev pub room_of : Mtu → ℕ
 room_of u = size_of u - 1
 
 -- an MTU that is neither 8 nor 64 is refusal 9
-abbrev pub tried_mtu : ℕ → TriedMtu
-tried_mtu n = cond (n == 8) (ValidMtu Can8) (cond (n == 64) (ValidMtu CanFd64) (NoMtu WrongMtu))
+abbrev pub tried_mtu : ℕ → Result Mtu Refusal
+tried_mtu n = cond (n == 8) (Ok Can8) (cond (n == 64) (Ok CanFd64) (Err WrongMtu))

@@ -1,12 +1,11 @@
 -- The frame plan. Document 01: "with payload p and room m = MTU − 1, CRC length c is 0 if p ≤ m, otherwise 2. Tails: max(1, (p + c)/m rounded up).
 -- Total = p + c + tails. Frames = total/MTU rounded up. The remainder of total by MTU is raised to the next of 0 to 8, 12, 16, 20, 24, 32, 48, 64; the rise
 -- is the padding, zeros after the payload."
-use Rattle.std.specs.Prelude.{ℕ, ◌+◌, ◌-◌, ◌/◌, ◌%◌, max, cond, List, [], ◌∷◌, nat_le}
+use Rattle.std.specs.Prelude.{ℕ, ◌+◌, ◌-◌, ◌/◌, ◌%◌, max, cond, List, [], ◌∷◌, nat_le, Err, Ok, Result}
+use Rattle.rules.specs.declared.refusal.Refusal.{Refusal}
 use Rattle.rules.specs.declared.refusal.Refusal.TheVariants.{PayloadTooLong}
 use Rattle.rules.specs.declared.data.Mtu.{Mtu}
 use Rattle.rules.specs.declared.stats.FrameStats.{FrameStats}
-use Rattle.rules.specs.declared.stats.Planned.{Planned}
-use Rattle.rules.specs.declared.stats.Planned.TheVariants.{Stats, Refused}
 use Rattle.rules.specs.Limits.{greatest_payload, size_of, room_of}
 
 -- the lengths that a CAN FD frame can have
@@ -47,5 +46,5 @@ abbrev pub stats_of : Mtu → ℕ → FrameStats
 stats_of u p = record { frames = frames u p; last_frame_padding = padding u p }
 
 -- the plan for a payload of p bytes; one over the greatest is refusal 10
-abbrev pub planned : Mtu → ℕ → Planned
-planned u p = cond (nat_le p greatest_payload) (Stats (stats_of u p)) (Refused PayloadTooLong)
+abbrev pub planned : Mtu → ℕ → Result FrameStats Refusal
+planned u p = cond (nat_le p greatest_payload) (Ok (stats_of u p)) (Err PayloadTooLong)

@@ -1,11 +1,9 @@
 -- The order of the queue. Document 01: "The queue is ordered by CAN ID, smallest first. `push_frame` sets a frame behind its equals, `return_frame` in front of
 -- them. Peek changes nothing; pop takes the first and its room is usable again at once. On an empty queue both say 'nothing'." Putting a frame in the queue is
 -- refused "3, 1, 13; no bytes is allowed there". What is queued is a list of frames, the first to leave first.
-use Rattle.std.specs.Prelude.{ℕ, ◌≤◌, Bool, true, cond, ◌&&◌, List, [], ◌∷◌, length, ◌==◌, nat_le, nat_lt}
-use Rattle.std.proofs.Math.Option.{Option, none, some}
+use Rattle.std.specs.Prelude.{ℕ, ◌≤◌, Bool, true, cond, ◌&&◌, List, [], ◌∷◌, length, ◌==◌, nat_le, nat_lt, Err, Ok, Result, Option, None, Some}
+use Rattle.rules.specs.declared.refusal.Refusal.{Refusal}
 use Rattle.rules.specs.declared.refusal.Refusal.TheVariants.{CanId, FrameTooLong, NoPlace}
-use Rattle.rules.specs.declared.placing.Placing.{Placing}
-use Rattle.rules.specs.declared.placing.Placing.TheVariants.{Placed, Refused}
 use Rattle.rules.specs.Limits.{greatest_frame, greatest_can_id}
 use Rattle.rules.specs.Frames.{Frame}
 
@@ -26,28 +24,28 @@ returned f (g ∷ gs) = cond (nat_le f.id g.id) (f ∷ g ∷ gs) (g ∷ returned
 
 -- the frame that leaves next, and what is queued after it left
 abbrev pub first : List Frame → Option Frame
-first [] = none
-first (f ∷ fs) = some f
+first [] = None
+first (f ∷ fs) = Some f
 
 abbrev pub rest : List Frame → List Frame
 rest [] = []
 rest (f ∷ fs) = fs
 
 -- whether so many frames find a place where so many are free: refusal 13 if not
-abbrev pub room_for : ℕ → ℕ → Placing
-room_for free frames = cond (nat_le frames free) Placed (Refused NoPlace)
+abbrev pub room_for : ℕ → ℕ → Result (Unit {0}) Refusal
+room_for free frames = cond (nat_le frames free) (Ok tt) (Err NoPlace)
 
 -- whether a frame is placed where so many places are free: over 64 bytes refusal 3, a CAN ID of 2^29 or more 1, no free place 13
-abbrev pub placed : ℕ → Frame → Placing
+abbrev pub placed : ℕ → Frame → Result (Unit {0}) Refusal
 placed free f =
     cond (nat_le (length f.bytes) greatest_frame)
-    (cond (nat_le f.id greatest_can_id) (room_for free 1) (Refused CanId))
-    (Refused FrameTooLong)
+    (cond (nat_le f.id greatest_can_id) (room_for free 1) (Err CanId))
+    (Err FrameTooLong)
 
 -- what stands after an answer: the new where it was placed, the old where it was refused
-abbrev pub after : {A : Type 0} → Placing → A → A → A
-after Placed new old = new
-after (Refused r) new old = old
+abbrev pub after : {A : Type 0} → Result (Unit {0}) Refusal → A → A → A
+after (Ok _) new old = new
+after (Err r) new old = old
 
 -- ---- what order means
 

@@ -1,24 +1,18 @@
 -- The whole receiver: 128 slots, and one store in which "slot n's bytes .. are bytes n×extent up to (n+1)×extent". A received frame is judged in document 01's
 -- order: "7, 2, 3, 1, 4, then 'not ours' (other kind, port or destination; no change), then the slot rules". Making a subscription: 12, 8.
-use Rattle.std.specs.Prelude.{ℕ, ◌+◌, ◌-◌, ◌*◌, Bool, false, cond, ◌&&◌, List, ◌++◌, length, take, drop, replicate, ◌==◌, nat_le, slice_index, slice_index_or, slice_set}
+use Rattle.std.specs.Prelude.{ℕ, ◌+◌, ◌-◌, ◌*◌, Bool, false, cond, ◌&&◌, List, ◌++◌, length, take, drop, replicate, ◌==◌, nat_le, slice_index, slice_index_or, slice_set, Err, None, Ok, Option, Result, Some}
+use Rattle.rules.specs.declared.types.CanNodeId.{CanNodeId}
+use Rattle.rules.specs.declared.refusal.Refusal.{Refusal}
 use Rattle.rules.specs.declared.refusal.Refusal.TheVariants.{NoBytes, FrameTooLong, StoreTooSmall, ExtentTooLarge, Field}
-use Rattle.rules.specs.declared.header.Source.{Source}
-use Rattle.rules.specs.declared.header.Source.TheVariants.{Node, Anonymous}
 use Rattle.rules.specs.declared.header.ServiceHeader.{ServiceHeader}
 use Rattle.rules.specs.declared.header.Header.{Header}
 use Rattle.rules.specs.declared.header.Header.TheVariants.{Message, Request, Response}
-use Rattle.rules.specs.declared.header.ParsedCanId.{ParsedCanId}
-use Rattle.rules.specs.declared.header.ParsedCanId.TheVariants.{Parsed, Refused as NotParsed}
 use Rattle.rules.specs.declared.subscription.ServicePort.{ServicePort}
 use Rattle.rules.specs.declared.subscription.Port.{Port}
 use Rattle.rules.specs.declared.subscription.Port.TheVariants.{Message as Messages, Request as Requests, Response as Responses}
 use Rattle.rules.specs.declared.subscription.Settings.{Settings}
-use Rattle.rules.specs.declared.subscription.Subscribing.{Subscribing}
-use Rattle.rules.specs.declared.subscription.Subscribing.TheVariants.{Made, Refused as NotMade}
 use Rattle.rules.specs.declared.receive.Arrival.{Arrival}
 use Rattle.rules.specs.declared.receive.Part.TheVariants.{OfFrame}
-use Rattle.rules.specs.declared.receive.Reading.{Reading}
-use Rattle.rules.specs.declared.receive.Reading.TheVariants.{Ours, NotOurs, Refused}
 use Rattle.rules.specs.declared.slots.Slot.{Slot}
 use Rattle.rules.specs.Limits.{greatest_frame, greatest_extent, greatest_subject, greatest_service, greatest_node, nodes}
 use Rattle.rules.specs.CanId.{parsed_can_id}
@@ -40,11 +34,11 @@ port_valid (Requests p) = service_valid p
 port_valid (Responses p) = service_valid p
 
 -- a subscription is made, or refused by 12, 8
-abbrev pub made : Port → ℕ → ℕ → Subscribing
+abbrev pub made : Port → ℕ → ℕ → Result Settings Refusal
 made port timeout extent =
     cond (port_valid port)
-    (cond (nat_le extent greatest_extent) (Made (record { port = port; timeout = timeout; extent = extent })) (NotMade ExtentTooLarge))
-    (NotMade Field)
+    (cond (nat_le extent greatest_extent) (Ok (record { port = port; timeout = timeout; extent = extent })) (Err ExtentTooLarge))
+    (Err Field)
 
 abbrev pub fresh_slots : List Slot
 fresh_slots = replicate nodes fresh_slot
@@ -77,15 +71,15 @@ abbrev pub arrival_of : Frame → Header → Arrival
 arrival_of f h = record { header = h; tail = parsed_tail (tail_of f.bytes); stamp = f.stamp; loopback = f.loopback }
 
 -- 1 and 4: the ID says no header; otherwise the header is ours or not
-abbrev pub addressed : Port → Frame → ParsedCanId → Reading
-addressed port f (NotParsed r) = Refused r
-addressed port f (Parsed h) = cond (wants port h) (Ours (arrival_of f h)) NotOurs
+abbrev pub addressed : Port → Frame → Result Header Refusal → Result (Option Arrival) Refusal
+addressed port f (Err r) = Err r
+addressed port f (Ok h) = cond (wants port h) (Ok (Some (arrival_of f h))) (Ok None)
 
 -- 2 and 3: a frame has 1 to 64 bytes
-unfoldable pub reading : Port → Frame → Reading
+unfoldable pub reading : Port → Frame → Result (Option Arrival) Refusal
 reading port f =
-    cond (length f.bytes == 0) (Refused NoBytes)
-    (cond (nat_le (length f.bytes) greatest_frame) (addressed port f (parsed_can_id f.id)) (Refused FrameTooLong))
+    cond (length f.bytes == 0) (Err NoBytes)
+    (cond (nat_le (length f.bytes) greatest_frame) (addressed port f (parsed_can_id f.id)) (Err FrameTooLong))
 
 -- ---- the 128 slots and the store
 
@@ -117,7 +111,7 @@ at_source extent w n t = record {
 }
 
 -- who sent it; a service transfer that was read has a source
-abbrev pub source_in : Header → Source
+abbrev pub source_in : Header → Option CanNodeId
 source_in (Message h) = h.source
 source_in (Request h) = h.source
 source_in (Response h) = h.source
@@ -125,14 +119,14 @@ source_in (Response h) = h.source
 -- ---- the judgement of a received frame: `same` is the outcome where nothing changes but the answer, `slot n` that of the rules for source n
 
 -- an anonymous frame is delivered uncut, whatever its tail bits, and touches no slot
-abbrev pub by_source : {A : Type 0} → Source → Arrival → List ℕ → (Answer → A) → (ℕ → Arrival → List ℕ → A) → A
-by_source Anonymous a bytes same slot = same (delivered_at a a.stamp a.loopback (OfFrame (length bytes)))
-by_source (Node n) a bytes same slot = slot n.0 a bytes
+abbrev pub by_source : {A : Type 0} → Option CanNodeId → Arrival → List ℕ → (Answer → A) → (ℕ → Arrival → List ℕ → A) → A
+by_source None a bytes same slot = same (delivered_at a a.stamp a.loopback (OfFrame (length bytes)))
+by_source (Some n) a bytes same slot = slot n.0 a bytes
 
-abbrev pub by_reading : {A : Type 0} → Reading → List ℕ → (Answer → A) → (ℕ → Arrival → List ℕ → A) → A
-by_reading (Refused r) bytes same slot = same (refused_by r)
-by_reading NotOurs bytes same slot = same not_ours
-by_reading (Ours a) bytes same slot = by_source (source_in a.header) a bytes same slot
+abbrev pub by_reading : {A : Type 0} → Result (Option Arrival) Refusal → List ℕ → (Answer → A) → (ℕ → Arrival → List ℕ → A) → A
+by_reading (Err r) bytes same slot = same (refused_by r)
+by_reading (Ok None) bytes same slot = same not_ours
+by_reading (Ok (Some a)) bytes same slot = by_source (source_in a.header) a bytes same slot
 
 -- a frame, where the store has so many bytes: 7 for fewer than 128 parts need
 unfoldable pub judged : {A : Type 0} → Settings → ℕ → Frame → (Answer → A) → (ℕ → Arrival → List ℕ → A) → A

@@ -2,12 +2,10 @@
 -- session: a frame whose loopback differs, whose start bit is not the awaited one (only the first) or whose toggle is not awaited gives nothing. .. Otherwise its
 -- bytes join the CRC and, up to the extent, the store." The extent is the length of the part of the store that the source has. The byte total stops at two over
 -- the extent, for "what lies past extent + 2 matters no more".
-use Rattle.std.specs.Prelude.{ℕ, ◌+◌, ◌-◌, min, Bool, true, false, cond, not, ◌&&◌, List, ◌++◌, length, take, drop, ◌==◌, nat_le}
+use Rattle.std.specs.Prelude.{ℕ, ◌+◌, ◌-◌, min, Bool, true, false, cond, not, ◌&&◌, List, ◌++◌, length, take, drop, ◌==◌, nat_le, None, Option, Some}
 use Rattle.std.specs.Bool.{beq}
 use Rattle.rules.specs.declared.receive.Arrival.{Arrival}
 use Rattle.rules.specs.declared.slots.Session.{Session as TheSession}
-use Rattle.rules.specs.declared.slots.Open.{Open}
-use Rattle.rules.specs.declared.slots.Open.TheVariants.{Closed, With}
 use Rattle.rules.specs.Crc.{crc_start, crc_from}
 
 -- the session that a start opens: it awaits the start bit and the first toggle, which is 1
@@ -22,9 +20,9 @@ opened a = record {
 }
 
 -- the session that a frame comes to: the open one, or one that it opens if it is a start
-abbrev pub session_for : Open → Arrival → Open
-session_for (With s) a = With s
-session_for Closed a = cond a.tail.start (With (opened a)) Closed
+abbrev pub session_for : Option TheSession → Arrival → Option TheSession
+session_for (Some s) a = Some s
+session_for None a = cond a.tail.start (Some (opened a)) None
 
 -- whether the session awaits this frame
 abbrev pub awaits : TheSession → Arrival → Bool

@@ -1,5 +1,5 @@
 // What a frame bears besides its bytes, which stand beside it in a slice.
-#[derive(Clone, Copy)]
+#[derive(Clone, Copy, PartialEq, Eq)]
 pub struct Marks {
     // in microseconds, of 32 bits
     pub stamp: u32,

@@ -1,19 +1,11 @@
 // Who sends a transfer, to which port, and how urgent it is.
-use crate::data::CanId;
-use crate::refusal::Refusal;
 use crate::types::{CanNodeId, Priority, ServiceId, SubjectId};
-
-#[derive(Clone, Copy)]
-pub enum Source {
-    Node(CanNodeId),
-    Anonymous,
-}
 
 #[derive(Clone, Copy)]
 pub struct MessageHeader {
     pub priority: Priority,
     pub subject: SubjectId,
-    pub source: Source,
+    pub source: Option<CanNodeId>,
 }
 
 // A service transfer must have a source; one without is taken, and refused by 12.
@@ -22,7 +14,7 @@ pub struct ServiceHeader {
     pub priority: Priority,
     pub service: ServiceId,
     // as far from the start as in a message's header, so that it is read from one place
-    pub source: Source,
+    pub source: Option<CanNodeId>,
     pub destination: CanNodeId,
 }
 
@@ -31,18 +23,4 @@ pub enum Header {
     Message(MessageHeader),
     Request(ServiceHeader),
     Response(ServiceHeader),
-}
-
-// The CAN ID of a header, or why there is none.
-#[derive(Clone, Copy)]
-pub enum MadeCanId {
-    Made(CanId),
-    Refused(Refusal),
-}
-
-// The header that a CAN ID says, or why it says none.
-#[derive(Clone, Copy)]
-pub enum ParsedCanId {
-    Parsed(Header),
-    Refused(Refusal),
 }

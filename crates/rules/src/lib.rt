@@ -5,7 +5,6 @@
 pub mod data;
 pub mod frame;
 pub mod header;
-pub mod placing;
 pub mod receive;
 pub mod refusal;
 pub mod send;

@@ -1,6 +1,5 @@
-// A received frame, and what a receiver answers to it.
+// A received frame, and what a receiver answers to it where it does not refuse it.
 use crate::header::Header;
-use crate::refusal::Refusal;
 use crate::tail::TailByte;
 use crate::types::CanTransferId;
 
@@ -11,14 +10,6 @@ pub struct Arrival {
     pub tail: TailByte,
     pub stamp: u32,
     pub loopback: bool,
-}
-
-// What a frame is to a subscription, the slots left aside.
-#[derive(Clone, Copy)]
-pub enum Reading {
-    Ours(Arrival),
-    NotOurs,
-    Refused(Refusal),
 }
 
 // Where the bytes of a delivery lie: at the front of the frame, or in the store.
@@ -44,5 +35,4 @@ pub enum Received {
     Delivered(Delivery),
     Nothing,
     NotOurs,
-    Refused(Refusal),
 }

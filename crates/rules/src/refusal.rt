@@ -2,36 +2,39 @@
 ghost use Rattle.std.specs.Prelude.{◌≡◌};
 ghost use Rattle.rules.specs.Refusals.{number_of};
 
-#[derive(Clone, Copy)]
+use std::error::Error;
+use std::fmt;
+
+#[derive(Clone, Copy, Debug, PartialEq, Eq)]
 pub enum Refusal {
-    // 1: a CAN ID of 2^29 or more
-    CanId,
-    // 2: a received frame with no bytes
-    NoBytes,
-    // 3: a frame over 64 bytes
-    FrameTooLong,
-    // 4: a reserved bit is set
-    ReservedBit,
-    // 5: no session and no start bit
-    NoSession,
-    // 6: a residue other than 0 at the end bit
-    Residue,
-    // 7: a store of fewer bytes than 128 parts need
-    StoreTooSmall,
-    // 8: an extent over its limit
-    ExtentTooLarge,
-    // 9: an MTU that is neither 8 nor 64
-    Mtu,
-    // 10: a payload over its limit
-    PayloadTooLong,
-    // 11: an anonymous payload that does not fit one frame
-    AnonymousTooLong,
-    // 12: a field out of its limits, or a service transfer with no source
-    Field,
-    // 13: fewer free places than frames needed
-    NoPlace,
-    // 14: a queue capacity over its limit
-    CapacityTooLarge,
+    // a CAN ID of 2^29 or more
+    CanId = 1,
+    // a received frame with no bytes
+    NoBytes = 2,
+    // a frame over 64 bytes
+    FrameTooLong = 3,
+    // a reserved bit is set
+    ReservedBit = 4,
+    // no session and no start bit
+    NoSession = 5,
+    // a residue other than 0 at the end bit
+    Residue = 6,
+    // a store of fewer bytes than 128 parts need
+    StoreTooSmall = 7,
+    // an extent over its limit
+    ExtentTooLarge = 8,
+    // an MTU that is neither 8 nor 64
+    Mtu = 9,
+    // a payload over its limit
+    PayloadTooLong = 10,
+    // an anonymous payload that does not fit one frame
+    AnonymousTooLong = 11,
+    // a field out of its limits, or a service transfer with no source
+    Field = 12,
+    // fewer free places than frames needed
+    NoPlace = 13,
+    // a queue capacity over its limit
+    CapacityTooLarge = 14,
 }
 
 impl Refusal {
@@ -39,21 +42,29 @@ impl Refusal {
     pub fn number(self) -> u8
         ensures { result ≡ number_of self }
     {
-        match self {
-            Refusal::CanId => 1,
-            Refusal::NoBytes => 2,
-            Refusal::FrameTooLong => 3,
-            Refusal::ReservedBit => 4,
-            Refusal::NoSession => 5,
-            Refusal::Residue => 6,
-            Refusal::StoreTooSmall => 7,
-            Refusal::ExtentTooLarge => 8,
-            Refusal::Mtu => 9,
-            Refusal::PayloadTooLong => 10,
-            Refusal::AnonymousTooLong => 11,
-            Refusal::Field => 12,
-            Refusal::NoPlace => 13,
-            Refusal::CapacityTooLarge => 14,
-        }
+        self as u8
     }
 }
+
+impl fmt::Display for Refusal {
+    fn fmt<W: fmt::Write>(&self, f: &mut fmt::Formatter<W>) -> fmt::Result {
+        f.write_str(match self {
+            Refusal::CanId => "a CAN ID that there is not",
+            Refusal::NoBytes => "no bytes",
+            Refusal::FrameTooLong => "a frame too long",
+            Refusal::ReservedBit => "a reserved bit",
+            Refusal::NoSession => "no session and no start bit",
+            Refusal::Residue => "a residue other than 0",
+            Refusal::StoreTooSmall => "a store too small",
+            Refusal::ExtentTooLarge => "an extent too large",
+            Refusal::Mtu => "an MTU that there is not",
+            Refusal::PayloadTooLong => "a payload too long",
+            Refusal::AnonymousTooLong => "an anonymous payload too long",
+            Refusal::Field => "a field out of its limits",
+            Refusal::NoPlace => "no free place",
+            Refusal::CapacityTooLarge => "a capacity too large",
+        })
+    }
+}
+
+impl Error for Refusal {}

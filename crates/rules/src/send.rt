@@ -1,7 +1,6 @@
-// A transfer to be sent, and what a send answers.
+// A transfer to be sent.
 use crate::data::{CanId, Mtu};
 use crate::header::Header;
-use crate::refusal::Refusal;
 use crate::stats::FrameStats;
 use crate::types::CanTransferId;
 
@@ -21,16 +20,4 @@ pub struct Outgoing {
     pub mtu: Mtu,
     pub id: CanId,
     pub stats: FrameStats,
-}
-
-#[derive(Clone, Copy)]
-pub enum Judged {
-    Goes(Outgoing),
-    Refused(Refusal),
-}
-
-#[derive(Clone, Copy)]
-pub enum Sending {
-    Done,
-    Refused(Refusal),
 }

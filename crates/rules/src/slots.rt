@@ -1,13 +1,6 @@
 // What a subscription keeps of each source, after rx/subscription.rs, rx/session.rs and rx/buildup.rs.
 use crate::types::CanTransferId;
 
-// The stamp that the last delivered transfer had, if there was one.
-#[derive(Clone, Copy)]
-pub enum LastTime {
-    Never,
-    At(u32),
-}
-
 // A transfer of several frames that is under way.
 #[derive(Clone, Copy)]
 pub struct Session {
@@ -24,21 +17,8 @@ pub struct Session {
 }
 
 #[derive(Clone, Copy)]
-pub enum Open {
-    Closed,
-    With(Session),
-}
-
-#[derive(Clone, Copy)]
 pub struct Slot {
     pub expected: CanTransferId,
-    pub last_time: LastTime,
-    pub session: Open,
-}
-
-// What the ID rule says of a frame: a repeat, which changes nothing, or go on with this slot.
-#[derive(Clone, Copy)]
-pub enum Admitted {
-    Repeat,
-    On(Slot),
+    pub last_time: Option<u32>,
+    pub session: Option<Session>,
 }

@@ -1,5 +1,4 @@
 // What a subscription asks for.
-use crate::refusal::Refusal;
 use crate::types::{CanNodeId, ServiceId, SubjectId};
 
 // A service at this node, to which its transfers go.
@@ -24,11 +23,4 @@ pub struct Settings {
     pub timeout: u32,
     // the greatest number of payload bytes that are kept of a transfer
     pub extent: u16,
-}
-
-// The settings of a subscription, or why there is none.
-#[derive(Clone, Copy)]
-pub enum Subscribing {
-    Made(Settings),
-    Refused(Refusal),
 }

@@ -1,144 +1,149 @@
-// The kinds of number, after types.rs. Any number can stand in one; the constructor of its kind judges it, and a number over the greatest is refusal 12.
-ghost use Rattle.std.specs.Prelude.{◌≡◌, nat_le};
-ghost use Rattle.rules.specs.Limits.{greatest_priority, greatest_subject, greatest_service, greatest_node, greatest_transfer_id, tried_priority, tried_subject, tried_service, tried_node, tried_transfer_id, truncated, is_reserved, incremented};
+// The kinds of number, after types.rs. Any number can stand in one; the constructor of its kind judges it, and a number over the greatest is refused.
+ghost use Rattle.std.specs.Prelude.{◌≡◌, ℕ, nat_le, Result};
+ghost use Rattle.rules.specs.declared.refusal.Refusal.{Refusal};
+ghost use Rattle.rules.specs.declared.refusal.Refusal.TheVariants.{Field};
+ghost use Rattle.rules.specs.Limits.{greatest_priority, greatest_subject, greatest_service, greatest_node, greatest_transfer_id, within, tried_priority, tried_subject, tried_service, tried_node, tried_transfer_id, truncated, is_reserved, incremented};
 
 use crate::refusal::Refusal;
 
-#[derive(Clone, Copy)]
+// A kind of number: its greatest, and how a greater one is refused. Each kind has the two impls written out: `rt ci` refuses impls by a macro of the repository's own.
+pub trait Limited: Copy + Drop {
+    ghost GREATEST: { ℕ };
+
+    const GREATEST: u32;
+
+    ghost OVER: { Refusal };
+
+    const OVER: Refusal;
+
+    ghost number: { Self → ℕ };
+
+    // The number that stands here.
+    fn number(self) -> u32
+        ensures { result ≡ number self };
+
+    // Whether the constructor takes the number that stands here.
+    final fn is_valid(self) -> bool
+        ensures { result ≡ nat_le (number self) GREATEST }
+    {
+        self.number() <= Self::GREATEST
+    }
+
+    // What the constructor says of the number that stands here.
+    final fn judged(self) -> Result<Self, Refusal>
+        ensures { result ≡ within OVER GREATEST (number self) self }
+    {
+        if Self::GREATEST < self.number() {
+            return Err(Self::OVER);
+        }
+        Ok(self)
+    }
+}
+
+#[derive(Clone, Copy, PartialEq, Eq)]
 pub struct Priority(pub u8);
-
-#[derive(Clone, Copy)]
-pub struct SubjectId(pub u16);
-
-#[derive(Clone, Copy)]
-pub struct ServiceId(pub u16);
-
-#[derive(Clone, Copy)]
-pub struct CanNodeId(pub u8);
-
-#[derive(Clone, Copy)]
-pub struct CanTransferId(pub u8);
-
-#[derive(Clone, Copy)]
-pub enum TriedPriority {
-    Valid(Priority),
-    Refused(Refusal),
-}
-
-#[derive(Clone, Copy)]
-pub enum TriedSubjectId {
-    Valid(SubjectId),
-    Refused(Refusal),
-}
-
-#[derive(Clone, Copy)]
-pub enum TriedServiceId {
-    Valid(ServiceId),
-    Refused(Refusal),
-}
-
-#[derive(Clone, Copy)]
-pub enum TriedCanNodeId {
-    Valid(CanNodeId),
-    Refused(Refusal),
-}
-
-#[derive(Clone, Copy)]
-pub enum TriedCanTransferId {
-    Valid(CanTransferId),
-    Refused(Refusal),
-}
 
 impl Priority {
     pub const MAX: u8 = 7;
+}
 
-    pub fn try_from(value: u8) -> TriedPriority
-        ensures { result ≡ tried_priority value }
-    {
-        if Priority::MAX < value {
-            return TriedPriority::Refused(Refusal::Field);
-        }
-        TriedPriority::Valid(Priority(value))
-    }
+impl Limited for Priority {
+    ghost GREATEST = { greatest_priority };
 
-    // Whether the constructor takes the number that stands here.
-    pub fn is_valid(self) -> bool
-        ensures { result ≡ nat_le self.0 greatest_priority }
-    {
-        match Priority::try_from(self.0) {
-            TriedPriority::Valid(_) => true,
-            TriedPriority::Refused(_) => false,
-        }
+    const GREATEST: u32 = Priority::MAX as u32;
+
+    ghost OVER = { Field };
+
+    const OVER: Refusal = Refusal::Field;
+
+    ghost number = { λ kind. kind.0 };
+
+    fn number(self) -> u32 {
+        u32::from(self.0)
     }
 }
+
+impl TryFrom<u8> for Priority {
+    type Error = Refusal;
+
+    ghost try_from_gives = { λ value r. r ≡ tried_priority value };
+
+    fn try_from(value: u8) -> Result<Self, Refusal> {
+        Priority(value).judged()
+    }
+}
+
+#[derive(Clone, Copy, PartialEq, Eq)]
+pub struct SubjectId(pub u16);
 
 impl SubjectId {
     pub const MAX: u16 = 8191;
+}
 
-    pub fn try_from(value: u16) -> TriedSubjectId
-        ensures { result ≡ tried_subject value }
-    {
-        if SubjectId::MAX < value {
-            return TriedSubjectId::Refused(Refusal::Field);
-        }
-        TriedSubjectId::Valid(SubjectId(value))
-    }
+impl Limited for SubjectId {
+    ghost GREATEST = { greatest_subject };
 
-    // Whether the constructor takes the number that stands here.
-    pub fn is_valid(self) -> bool
-        ensures { result ≡ nat_le self.0 greatest_subject }
-    {
-        match SubjectId::try_from(self.0) {
-            TriedSubjectId::Valid(_) => true,
-            TriedSubjectId::Refused(_) => false,
-        }
+    const GREATEST: u32 = SubjectId::MAX as u32;
+
+    ghost OVER = { Field };
+
+    const OVER: Refusal = Refusal::Field;
+
+    ghost number = { λ kind. kind.0 };
+
+    fn number(self) -> u32 {
+        u32::from(self.0)
     }
 }
+
+impl TryFrom<u16> for SubjectId {
+    type Error = Refusal;
+
+    ghost try_from_gives = { λ value r. r ≡ tried_subject value };
+
+    fn try_from(value: u16) -> Result<Self, Refusal> {
+        SubjectId(value).judged()
+    }
+}
+
+#[derive(Clone, Copy, PartialEq, Eq)]
+pub struct ServiceId(pub u16);
 
 impl ServiceId {
     pub const MAX: u16 = 511;
+}
 
-    pub fn try_from(value: u16) -> TriedServiceId
-        ensures { result ≡ tried_service value }
-    {
-        if ServiceId::MAX < value {
-            return TriedServiceId::Refused(Refusal::Field);
-        }
-        TriedServiceId::Valid(ServiceId(value))
-    }
+impl Limited for ServiceId {
+    ghost GREATEST = { greatest_service };
 
-    // Whether the constructor takes the number that stands here.
-    pub fn is_valid(self) -> bool
-        ensures { result ≡ nat_le self.0 greatest_service }
-    {
-        match ServiceId::try_from(self.0) {
-            TriedServiceId::Valid(_) => true,
-            TriedServiceId::Refused(_) => false,
-        }
+    const GREATEST: u32 = ServiceId::MAX as u32;
+
+    ghost OVER = { Field };
+
+    const OVER: Refusal = Refusal::Field;
+
+    ghost number = { λ kind. kind.0 };
+
+    fn number(self) -> u32 {
+        u32::from(self.0)
     }
 }
 
+impl TryFrom<u16> for ServiceId {
+    type Error = Refusal;
+
+    ghost try_from_gives = { λ value r. r ≡ tried_service value };
+
+    fn try_from(value: u16) -> Result<Self, Refusal> {
+        ServiceId(value).judged()
+    }
+}
+
+#[derive(Clone, Copy, PartialEq, Eq)]
+pub struct CanNodeId(pub u8);
+
 impl CanNodeId {
     pub const MAX: u8 = 127;
-
-    pub fn try_from(value: u8) -> TriedCanNodeId
-        ensures { result ≡ tried_node value }
-    {
-        if CanNodeId::MAX < value {
-            return TriedCanNodeId::Refused(Refusal::Field);
-        }
-        TriedCanNodeId::Valid(CanNodeId(value))
-    }
-
-    // Whether the constructor takes the number that stands here.
-    pub fn is_valid(self) -> bool
-        ensures { result ≡ nat_le self.0 greatest_node }
-    {
-        match CanNodeId::try_from(self.0) {
-            TriedCanNodeId::Valid(_) => true,
-            TriedCanNodeId::Refused(_) => false,
-        }
-    }
 
     // The low seven bits of any number, as a node.
     pub fn from_truncating(value: u8) -> CanNodeId
@@ -155,32 +160,68 @@ impl CanNodeId {
     }
 }
 
+impl Limited for CanNodeId {
+    ghost GREATEST = { greatest_node };
+
+    const GREATEST: u32 = CanNodeId::MAX as u32;
+
+    ghost OVER = { Field };
+
+    const OVER: Refusal = Refusal::Field;
+
+    ghost number = { λ kind. kind.0 };
+
+    fn number(self) -> u32 {
+        u32::from(self.0)
+    }
+}
+
+impl TryFrom<u8> for CanNodeId {
+    type Error = Refusal;
+
+    ghost try_from_gives = { λ value r. r ≡ tried_node value };
+
+    fn try_from(value: u8) -> Result<Self, Refusal> {
+        CanNodeId(value).judged()
+    }
+}
+
+#[derive(Clone, Copy, PartialEq, Eq)]
+pub struct CanTransferId(pub u8);
+
 impl CanTransferId {
     pub const MAX: u8 = 31;
-
-    pub fn try_from(value: u8) -> TriedCanTransferId
-        ensures { result ≡ tried_transfer_id value }
-    {
-        if CanTransferId::MAX < value {
-            return TriedCanTransferId::Refused(Refusal::Field);
-        }
-        TriedCanTransferId::Valid(CanTransferId(value))
-    }
-
-    // Whether the constructor takes the number that stands here.
-    pub fn is_valid(self) -> bool
-        ensures { result ≡ nat_le self.0 greatest_transfer_id }
-    {
-        match CanTransferId::try_from(self.0) {
-            TriedCanTransferId::Valid(_) => true,
-            TriedCanTransferId::Refused(_) => false,
-        }
-    }
 
     // The transfer ID after this one: one more, and 0 after the greatest.
     pub fn increment(self) -> CanTransferId
         ensures { result ≡ incremented self }
     {
-        CanTransferId(std::num::wrapping_add_u8(self.0, 1) & CanTransferId::MAX)
+        CanTransferId(self.0.wrapping_add(1) & CanTransferId::MAX)
+    }
+}
+
+impl Limited for CanTransferId {
+    ghost GREATEST = { greatest_transfer_id };
+
+    const GREATEST: u32 = CanTransferId::MAX as u32;
+
+    ghost OVER = { Field };
+
+    const OVER: Refusal = Refusal::Field;
+
+    ghost number = { λ kind. kind.0 };
+
+    fn number(self) -> u32 {
+        u32::from(self.0)
+    }
+}
+
+impl TryFrom<u8> for CanTransferId {
+    type Error = Refusal;
+
+    ghost try_from_gives = { λ value r. r ≡ tried_transfer_id value };
+
+    fn try_from(value: u8) -> Result<Self, Refusal> {
+        CanTransferId(value).judged()
     }
 }

@@ -1,22 +1,17 @@
 -- The short way of a frame in the middle of a transfer: what the rules do with the frame is what the short way does.
+use Rattle.std.specs.Prelude.{Err, None, Ok, Option, Result, Some}
+use Rattle.rules.specs.declared.types.CanNodeId.{CanNodeId}
+use Rattle.rules.specs.declared.refusal.Refusal.{Refusal}
 use Rattle.std.proofs.Common.{◌≡◌, ℕ, ◌+◌, ◌-◌, ◌*◌, ◌%◌, ◌<◌, ◌≤◌, min, Bool, true, false, cond, not, eqb, leb, List, [], length, get_or, take, drop, set, sym, refl, ap, ◌∙◌, arith, ne_eqb, le-leb, leb-true}
 use mathlib.Core.Bool.{beq, false≢true}
 use borrow.Rule.Slice.PartMut.{put_mid}
 use Rattle.laws.proofs.Choose.{both_true}
 use Rattle.rules.specs.declared.types.CanTransferId.{CanTransferId}
-use Rattle.rules.specs.declared.header.Source.{Source}
-use Rattle.rules.specs.declared.header.Source.TheVariants.{Node, Anonymous}
 use Rattle.rules.specs.declared.header.Header.{Header}
-use Rattle.rules.specs.declared.header.ParsedCanId.{ParsedCanId}
-use Rattle.rules.specs.declared.header.ParsedCanId.TheVariants.{Parsed, Refused}
 use Rattle.rules.specs.declared.subscription.Settings.{Settings}
 use Rattle.rules.specs.declared.receive.Arrival.{Arrival}
-use Rattle.rules.specs.declared.receive.Reading.TheVariants.{Ours}
 use Rattle.rules.specs.declared.slots.Session.{Session as TheSession}
-use Rattle.rules.specs.declared.slots.Open.TheVariants.{With}
 use Rattle.rules.specs.declared.slots.Slot.{Slot}
-use Rattle.rules.specs.declared.slots.Admitted.{Admitted}
-use Rattle.rules.specs.declared.slots.Admitted.TheVariants.{On}
 use Rattle.rules.specs.Limits.{nodes, greatest_frame}
 use Rattle.rules.specs.CanId.{parsed_can_id}
 use Rattle.rules.specs.Crc.{crc_from}
@@ -50,7 +45,7 @@ in_part bytes store e n at total r place took room =
 -- ---- a session in the middle of its transfer
 
 -- a frame with the expected ID goes on
-on_expected : (timeout stamp : ℕ) (slot : Slot) (id : CanTransferId) → eqb id.0 slot.expected.0 ≡ true → admitted timeout slot id stamp ≡ On slot
+on_expected : (timeout stamp : ℕ) (slot : Slot) (id : CanTransferId) → eqb id.0 slot.expected.0 ≡ true → admitted timeout slot id stamp ≡ Some slot
 unfolding admitted
 on_expected timeout stamp slot id e = rw e
 
@@ -61,7 +56,7 @@ unfolding joined
 so_far extent bytes x p f k = rw (f, k)
 
 module _ (a : Arrival) (bytes : List ℕ) (start : a.tail.start ≡ false) (end : a.tail.end ≡ false) where
-  no_start : (x : TheSession) → session_awaits (With x) a.loopback a.tail.toggle ≡ true → awaits x a ≡ true
+  no_start : (x : TheSession) → session_awaits (Some x) a.loopback a.tail.toggle ≡ true → awaits x a ≡ true
   no_start x e = rw (start, unset x.expect_start) e
     where
       unset : (b : Bool) → beq b false ≡ not b
@@ -69,8 +64,8 @@ module _ (a : Arrival) (bytes : List ℕ) (start : a.tail.start ≡ false) (end 
       unset false = refl
 
   -- the frame joins, and there is nothing to answer yet
-  goes_middle : (slot : Slot) (x : TheSession) (part : List ℕ) → slot.session ≡ With x → awaits x a ≡ true
-      → goes_on slot part a bytes ≡ leaves nothing (with_session slot (With (joined (length part) x bytes))) (stored x.total bytes part)
+  goes_middle : (slot : Slot) (x : TheSession) (part : List ℕ) → slot.session ≡ Some x → awaits x a ≡ true
+      → goes_on slot part a bytes ≡ leaves nothing (with_session slot (Some (joined (length part) x bytes))) (stored x.total bytes part)
   unfolding goes_on in_session continued
   goes_middle slot x part e w = rw (e, w, start, end)
 
@@ -92,10 +87,10 @@ module _ (a : Arrival) (bytes : List ℕ) (start : a.tail.start ≡ false) (end 
       let same =
       so_far (length part) bytes x p (hc ∙ ap (λ (y : Progress). crc_from y.crc bytes) g)
       (ht ∙ ap (λ (y : Progress). min (length part + 2) (y.total + length bytes)) g) in
-      ap (λ (r : Admitted). ruled r s.extent words store n a bytes)
+      ap (λ (r : Option Slot). ruled r s.extent words store n a bytes)
       (on_expected s.timeout a.stamp (slot_of w) a.tail.transfer_id q.2)
       ∙ ap (saved s.extent words store n) (goes_middle (slot_of w) x part q.1 (no_start x q.3))
-      ∙ ap (λ (y : TheSession). closes nothing (set words n (words_of (with_session (slot_of w) (With y)))) (with_part s.extent n store (stored x.total bytes part))) same
+      ∙ ap (λ (y : TheSession). closes nothing (set words n (words_of (with_session (slot_of w) (Some y)))) (with_part s.extent n store (stored x.total bytes part))) same
       ∙ ap (λ (v : List ℕ). closes nothing (set words n v) (with_part s.extent n store (stored x.total bytes part))) (sym (words_with w p x q.1))
       ∙ ap (λ (y : Progress). closes nothing (set words n (words_on w p)) (with_part s.extent n store (stored y.total bytes part))) (sym g)
 
@@ -123,29 +118,29 @@ module _ (s : Settings) (words : List (List ℕ)) (store : List ℕ) (f : Frame)
   abbrev Taken : Header → Type 0
   Taken h = accepted s words store f ≡ in_words s words store (f.id % nodes) (arrival_of f h) (before_tail f.bytes)
 
-  ours : (h : Header) → (0 < length f.bytes) × (length f.bytes ≤ greatest_frame) → parsed_can_id f.id ≡ Parsed h → wants s.port h ≡ true → reading s.port f ≡ Ours (arrival_of f h)
+  ours : (h : Header) → (0 < length f.bytes) × (length f.bytes ≤ greatest_frame) → parsed_can_id f.id ≡ Ok h → wants s.port h ≡ true → reading s.port f ≡ Ok (Some (arrival_of f h))
   unfolding reading
   ours h (some, few) e w =
       let z : eqb (length f.bytes) 0 ≡ false = ne_eqb (length f.bytes) 0 (λ q. omega arith) in
       let l : leb (length f.bytes) greatest_frame ≡ true = le-leb (length f.bytes) greatest_frame few in
       rw (z, l) (ap (addressed s.port f) e ∙ rw w)
 
-  from : (h : Header) (o : Source) → nodes * s.extent ≤ length store → reading s.port f ≡ Ours (arrival_of f h) → parsed_can_id f.id ≡ Parsed h
+  from : (h : Header) (o : Option CanNodeId) → nodes * s.extent ≤ length store → reading s.port f ≡ Ok (Some (arrival_of f h)) → parsed_can_id f.id ≡ Ok h
       → source_in h ≡ o → not (unnamed o) ≡ true → Taken h
   unfolding accepted
-  from h Anonymous room r e q n = absurd (false≢true n)
-  from h (Node k) room r e q n =
+  from h None room r e q n = absurd (false≢true n)
+  from h (Some k) room r e q n =
       let same : Answer → Closing = λ answer. closes answer words store in
-      read_as s (length store) f same (in_words s words store) (Ours (arrival_of f h)) room r
-      ∙ ap (λ (o : Source). by_source o (arrival_of f h) (before_tail f.bytes) same (in_words s words store)) q
+      read_as s (length store) f same (in_words s words store) (Ok (Some (arrival_of f h))) room r
+      ∙ ap (λ (o : Option CanNodeId). by_source o (arrival_of f h) (before_tail f.bytes) same (in_words s words store)) q
       ∙ ap (λ (i : ℕ). in_words s words store i (arrival_of f h) (before_tail f.bytes)) (source_read f.id k h e q)
 
   -- a frame of 1 to 64 bytes whose ID speaks to the port is one of the source that the ID names
   pub of_source : nodes * s.extent ≤ length store → (0 < length f.bytes) × (length f.bytes ≤ greatest_frame) → comes_to s.port (parsed_can_id f.id) ≡ true → (h : Header) × Taken h
   of_source room long comes = go (parsed_can_id f.id) refl comes
     where
-      go : (p : ParsedCanId) → parsed_can_id f.id ≡ p → comes_to s.port p ≡ true → (h : Header) × Taken h
-      go (Refused r) e c = absurd (false≢true c)
-      go (Parsed h) e c =
+      go : (p : Result Header Refusal) → parsed_can_id f.id ≡ p → comes_to s.port p ≡ true → (h : Header) × Taken h
+      go (Err r) e c = absurd (false≢true c)
+      go (Ok h) e c =
           let b = both_true (not (unnamed (source_in h))) (wants s.port h) c in
           (h, from h (source_in h) room (ours h long e b.1) e refl b.0)

@@ -1,4 +1,6 @@
 -- What a frame's source leaves in the lent memory.
+use Rattle.std.specs.Prelude.{Result}
+use Rattle.rules.specs.declared.refusal.Refusal.{Refusal}
 use Rattle.std.proofs.Common.{◌≡◌, ℕ, ◌+◌, ◌-◌, ◌*◌, List, set, ap, ◌∙◌}
 use borrow.Rule.Slice.PartMut.{put_mid}
 use Rattle.rules.specs.declared.receive.Received.{Received}
@@ -10,7 +12,7 @@ use Rattle.rx.specs.Accept.{closes, saved}
 use Rattle.rx.proofs.Parts.{lent_back}
 
 -- the slot written back, the part back in its place, and the answer's bytes counted from the start of the store: the turn is saved
-pub written : (e n : ℕ) (words : List (List ℕ)) (store : List ℕ) (step : Step) (part : List ℕ) (start : ℕ) (answer : Received) {after : List (List ℕ)}
+pub written : (e n : ℕ) (words : List (List ℕ)) (store : List ℕ) (step : Step) (part : List ℕ) (start : ℕ) (answer : Result Received Refusal) {after : List (List ℕ)}
     → start ≡ n * e → answer_of answer ≡ answer_from start (answer_of step.answer) → after ≡ set words n (words_of step.slot)
     → closes (answer_of answer) after (put_mid start (start + e - start) store part) ≡ saved e words store n (turn_of step part)
 written e n words store step part start answer {after} s a w =

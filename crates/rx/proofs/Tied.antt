@@ -1,20 +1,17 @@
 -- The words, viewed as slots, step as the book's 128 slots do: what a frame leaves of a slot that was read from words fits words again. A frame writes in its
 -- source's words alone.
+use Rattle.std.specs.Prelude.{Err, None, Ok, Option, Result, Some}
+use Rattle.rules.specs.declared.refusal.Refusal.{Refusal}
+use Rattle.rx.specs.declared.subscription.Subscription.{Subscription}
 use Rattle.std.proofs.Common.{◌≡◌, ℕ, zero, suc, ◌%◌, ◌^◌, ◌<◌, ◌&&◌, eqb, ◌≢◌, List, [], ◌∷◌, map, length, get_or, set, replicate, sym, refl, ap, ◌∙◌, subst, arith, lit<, length-set, get_or-set_other}
 use lib.Seq.{set-get_or}
 use Rattle.laws.proofs.Choose.{either_way}
 use Rattle.rules.specs.declared.subscription.Settings.{Settings}
-use Rattle.rules.specs.declared.subscription.Subscribing.{Subscribing}
-use Rattle.rules.specs.declared.subscription.Subscribing.TheVariants.{Made, Refused as NotMade}
 use Rattle.rules.specs.declared.types.CanTransferId.{CanTransferId}
 use Rattle.rules.specs.declared.receive.Arrival.{Arrival}
 use Rattle.rules.specs.declared.receive.Received.{Received}
 use Rattle.rules.specs.declared.slots.Session.{Session}
-use Rattle.rules.specs.declared.slots.Open.{Open}
-use Rattle.rules.specs.declared.slots.Open.TheVariants.{Closed, With}
 use Rattle.rules.specs.declared.slots.Slot.{Slot}
-use Rattle.rules.specs.declared.slots.Admitted.{Admitted}
-use Rattle.rules.specs.declared.slots.Admitted.TheVariants.{Repeat, On}
 use Rattle.rules.specs.Limits.{transfer_ids, nodes, incremented}
 use Rattle.rules.specs.Crc.{crc_start}
 use Rattle.rules.specs.Frames.{Frame}
@@ -27,8 +24,6 @@ use Rattle.rules.proofs.Crc.{from_lt}
 use Rattle.rules.proofs.Answers.{one_answer}
 use Rattle.rules.proofs.Store.{put_own}
 use Rattle.rules.proofs.Receiver.{source_known, id_below, judged_either, judged_map}
-use Rattle.rx.specs.declared.subscription.Subscribed.{Subscribed}
-use Rattle.rx.specs.declared.subscription.Subscribed.TheVariants.{Made as MadeSubscription, Refused}
 use Rattle.slots.specs.Words.{words_of, slot_of}
 use Rattle.rx.specs.Accept.{settings_made, words_made, Closing, closes, ruled, in_words, accepted, viewed, viewed_after}
 use Rattle.slots.proofs.Words.{OpenFits, SlotFits, words_read, slot_fits, fresh_words}
@@ -47,16 +42,16 @@ module _ (slot : Slot) (a : Arrival) (h : slot.expected.0 < 256) where
   unfolding continued ended
   continued_fits part s k = either_way Leaves a.tail.end (either_way Leaves (complete s) (next_fits, tt) (h, tt)) (h, k)
 
-  to_session_fits : (part bytes : List ℕ) (o : Open) → OpenFits o → OpenFits slot.session → Leaves (to_session o slot part a bytes)
+  to_session_fits : (part bytes : List ℕ) (o : Option Session) → OpenFits o → OpenFits slot.session → Leaves (to_session o slot part a bytes)
   unfolding in_session joined
-  to_session_fits part bytes Closed k l = (h, l)
-  to_session_fits part bytes (With s) k l =
+  to_session_fits part bytes None k l = (h, l)
+  to_session_fits part bytes (Some s) k l =
       either_way Leaves (awaits s a)
       (continued_fits (stored s.total bytes part) (joined (length part) s bytes) (from_lt bytes s.crc k)) (h, k)
 
-session_for_fits : (a : Arrival) (o : Open) → OpenFits o → OpenFits (session_for o a)
-session_for_fits a Closed k = let c : crc_start < 2 ^ 16 = lit< tt in either_way OpenFits a.tail.start c tt
-session_for_fits a (With s) k = k
+session_for_fits : (a : Arrival) (o : Option Session) → OpenFits o → OpenFits (session_for o a)
+session_for_fits a None k = let c : crc_start < 2 ^ 16 = lit< tt in either_way OpenFits a.tail.start c tt
+session_for_fits a (Some s) k = k
 
 -- a frame that goes on leaves a slot that fits, if the slot did
 pub fits_kept : (slot : Slot) (part : List ℕ) (a : Arrival) (bytes : List ℕ) → SlotFits slot → SlotFits (goes_on slot part a bytes).cell.slot
@@ -66,9 +61,9 @@ fits_kept slot part a bytes (h, k) =
     (to_session_fits slot a h part bytes (session_for slot.session a) (session_for_fits a slot.session k) k)
 
 -- the slot that goes on, if one does, fits
-abbrev pub AdmittedFits : Admitted → Type 0
-AdmittedFits Repeat = Unit {0}
-AdmittedFits (On slot) = SlotFits slot
+abbrev pub AdmittedFits : Option Slot → Type 0
+AdmittedFits None = Unit {0}
+AdmittedFits (Some slot) = SlotFits slot
 
 -- so does the slot that the ID rule lets go on, where the frame's ID is one of the 32
 pub admitted_fits : (timeout : ℕ) (slot : Slot) (id : CanTransferId) (stamp : ℕ) → SlotFits slot → id.0 < transfer_ids
@@ -102,11 +97,11 @@ module _ (words : List (List ℕ)) (store : List ℕ) where
   pub slot_viewed : (n : ℕ) → get_or (map slot_of words) n fresh_slot ≡ slot_of (get_or words n [])
   slot_viewed n = ap (get_or (map slot_of words) n) (sym fresh_words.1) ∙ get_map slot_of words n []
 
-  ruled_tied : (r : Admitted) → AdmittedFits r → (e n : ℕ) (a : Arrival) (bytes : List ℕ)
+  ruled_tied : (r : Option Slot) → AdmittedFits r → (e n : ℕ) (a : Arrival) (bytes : List ℕ)
       → viewed_after (ruled r e words store n a bytes) ≡ at_source e (viewed words store) n (by_id_rule r (cell_at e (viewed words store) n) a bytes)
   unfolding at_source cell_at
-  ruled_tied Repeat h e n a bytes = rw (set-get_or (map slot_of words) n fresh_slot, put_own e n store) refl
-  ruled_tied (On slot) h e n a bytes =
+  ruled_tied None h e n a bytes = rw (set-get_or (map slot_of words) n fresh_slot, put_own e n store) refl
+  ruled_tied (Some slot) h e n a bytes =
       let t : Turn = goes_on slot (part_of e n store) a bytes in
       rw (set_map slot_of words n (words_of t.cell.slot), words_read t.cell.slot (fits_kept slot (part_of e n store) a bytes h)) refl
 
@@ -116,7 +111,7 @@ module _ (words : List (List ℕ)) (store : List ℕ) where
   unfolding in_words turn cell_at
   in_words_tied s n a bytes h =
       let w : Receiver = viewed words store in
-      let rule : Slot → Admitted = λ x. admitted s.timeout x a.tail.transfer_id a.stamp in
+      let rule : Slot → Option Slot = λ x. admitted s.timeout x a.tail.transfer_id a.stamp in
       let slot : Slot = slot_of (get_or words n []) in
       ruled_tied (rule slot) (admitted_fits s.timeout slot a.tail.transfer_id a.stamp (slot_fits (get_or words n [])) h) s.extent n a bytes
       ∙ ap (λ (x : Slot). at_source s.extent w n (by_id_rule (rule x) (cell_at s.extent w n) a bytes)) (sym (slot_viewed n))
@@ -145,10 +140,10 @@ module _ (s : Settings) (words : List (List ℕ)) (store : List ℕ) (f : Frame)
       go n a (before_tail f.bytes) (λ w. subst (λ (i : ℕ). P (set words i w)) own (written w))
       (admitted s.timeout (slot_of (get_or words n [])) a.tail.transfer_id a.stamp))
     where
-      go : (n : ℕ) (a : Arrival) (bytes : List ℕ) → ((w : List ℕ) → P (set words n w)) → (r : Admitted)
+      go : (n : ℕ) (a : Arrival) (bytes : List ℕ) → ((w : List ℕ) → P (set words n w)) → (r : Option Slot)
           → P (ruled r s.extent words store n a bytes).words
-      go n a bytes there Repeat = kept
-      go n a bytes there (On slot) = there _
+      go n a bytes there None = kept
+      go n a bytes there (Some slot) = there _
 
   -- the words are as many as before
   pub words_length : length (accepted s words store f).words ≡ length words
@@ -161,25 +156,25 @@ module _ (s : Settings) (words : List (List ℕ)) (store : List ℕ) (f : Frame)
 -- ---- making
 
 -- making writes 128 fresh slots
-pub made_fresh : (s : Settings) (words : List (List ℕ)) (store : List ℕ) → (viewed (words_made (Made s) words) store).slots ≡ fresh_slots
+pub made_fresh : (s : Settings) (words : List (List ℕ)) (store : List ℕ) → (viewed (words_made (Ok s) words) store).slots ≡ fresh_slots
 made_fresh s words store = replicate_map slot_of nodes (words_of fresh_slot) ∙ ap (replicate nodes) fresh_words.0
 
 -- ---- the promise
 
 -- an answer, words and a store are those of one outcome alone: what is promised through them admits no second
-pub no_second_closing : (q r : Received) (w v : List (List ℕ)) (st u : List ℕ) → closes (answer_of q) w st ≡ closes (answer_of r) v u
+pub no_second_closing : (q r : Result Received Refusal) (w v : List (List ℕ)) (st u : List ℕ) → closes (answer_of q) w st ≡ closes (answer_of r) v u
     → (q ≡ r) × (w ≡ v) × (st ≡ u)
 no_second_closing q r w v st u e =
     (one_answer q r (ap (λ (c : Closing). c.answer) e), ap (λ (c : Closing). c.words) e, ap (λ (c : Closing). c.store) e)
 
 -- so does the promise of making
-pub no_second_making : (a b : Subscribed) → settings_made a ≡ settings_made b → a ≡ b
+pub no_second_making : (a b : Result Subscription Refusal) → settings_made a ≡ settings_made b → a ≡ b
 no_second_making a b e = sym (back_of a) ∙ ap back e ∙ back_of b
   where
-    back : Subscribing → Subscribed
-    back (Made s) = MadeSubscription (record { settings = s })
-    back (NotMade r) = Refused r
+    back : Result Settings Refusal → Result Subscription Refusal
+    back (Ok s) = Ok (record { settings = s })
+    back (Err r) = Err r
 
-    back_of : (a : Subscribed) → back (settings_made a) ≡ a
-    back_of (MadeSubscription s) = refl
-    back_of (Refused r) = refl
+    back_of : (a : Result Subscription Refusal) → back (settings_made a) ≡ a
+    back_of (Ok s) = refl
+    back_of (Err r) = refl

@@ -1,42 +1,38 @@
 -- What `Subscription` does to the memory that it is lent: 128 slots in four words each, and the store. A slot that a frame goes on with is written in one form;
 -- where document 01 says "no change", the words stay as they are, whatever they are.
-use Rattle.std.specs.Prelude.{ℕ, ◌*◌, ◌<◌, List, [], map, length, replicate, slice_index_or, slice_set}
+use Rattle.std.specs.Prelude.{ℕ, ◌*◌, ◌<◌, List, [], map, length, replicate, slice_index_or, slice_set, Err, None, Ok, Option, Result, Some}
+use Rattle.rules.specs.declared.types.CanNodeId.{CanNodeId}
+use Rattle.rules.specs.declared.refusal.Refusal.{Refusal}
+use Rattle.rules.specs.declared.slots.Slot.{Slot}
+use Rattle.rx.specs.declared.subscription.Subscription.{Subscription}
 use Rattle.rules.specs.declared.subscription.Settings.{Settings}
-use Rattle.rules.specs.declared.subscription.Subscribing.{Subscribing}
-use Rattle.rules.specs.declared.subscription.Subscribing.TheVariants.{Made as MadeSettings, Refused as NotMade}
 use Rattle.rules.specs.declared.receive.Arrival.{Arrival}
-use Rattle.rules.specs.declared.header.Source.{Source}
-use Rattle.rules.specs.declared.header.Source.TheVariants.{Node, Anonymous}
-use Rattle.rules.specs.declared.slots.Admitted.{Admitted}
-use Rattle.rules.specs.declared.slots.Admitted.TheVariants.{Repeat, On}
 use Rattle.rules.specs.Limits.{nodes}
 use Rattle.rules.specs.Frames.{Frame}
 use Rattle.rules.specs.Slot.{fresh_slot, admitted}
 use Rattle.rules.specs.Answers.{Answer, nothing, answer_from}
 use Rattle.rules.specs.Source.{Turn, goes_on}
 use Rattle.rules.specs.Receiver.{Receiver, Outcome, part_of, with_part, judged}
-use Rattle.rx.specs.declared.subscription.Subscribed.{Subscribed}
-use Rattle.rx.specs.declared.subscription.Subscribed.TheVariants.{Made, Refused}
 use Rattle.slots.specs.Words.{words_of, slot_of}
 
 -- ---- making
 
 -- the settings of the subscription that was made, or the refusal
-abbrev pub settings_made : Subscribed → Subscribing
-settings_made (Made s) = MadeSettings s.settings
-settings_made (Refused r) = NotMade r
+abbrev pub settings_made : Result Subscription Refusal → Result Settings Refusal
+settings_made (Ok s) = Ok s.settings
+settings_made (Err r) = Err r
 
 -- the words after making: 128 fresh slots, or as they were
-abbrev pub words_made : Subscribing → List (List ℕ) → List (List ℕ)
-words_made (MadeSettings s) words = replicate nodes (words_of fresh_slot)
-words_made (NotMade r) words = words
+abbrev pub words_made : Result Settings Refusal → List (List ℕ) → List (List ℕ)
+words_made (Ok s) words = replicate nodes (words_of fresh_slot)
+words_made (Err r) words = words
 
 -- ---- 128 sources
 
 -- a source that has a slot
-abbrev pub Known : Source → Type 0
-Known (Node n) = n.0 < nodes
-Known Anonymous = Unit {0}
+abbrev pub Known : Option CanNodeId → Type 0
+Known (Some n) = n.0 < nodes
+Known None = Unit {0}
 
 -- the answer, the words and the store after a frame
 pub record Closing : Type 0 where
@@ -52,9 +48,9 @@ abbrev pub saved : ℕ → List (List ℕ) → List ℕ → ℕ → Turn → Clo
 saved extent words store n t =
     closes (answer_from (n * extent) t.answer) (slice_set words n (words_of t.cell.slot)) (with_part extent n store t.cell.part)
 
-abbrev pub ruled : Admitted → ℕ → List (List ℕ) → List ℕ → ℕ → Arrival → List ℕ → Closing
-ruled Repeat extent words store n a bytes = closes nothing words store
-ruled (On slot) extent words store n a bytes = saved extent words store n (goes_on slot (part_of extent n store) a bytes)
+abbrev pub ruled : Option Slot → ℕ → List (List ℕ) → List ℕ → ℕ → Arrival → List ℕ → Closing
+ruled None extent words store n a bytes = closes nothing words store
+ruled (Some slot) extent words store n a bytes = saved extent words store n (goes_on slot (part_of extent n store) a bytes)
 
 -- a frame of source n
 unfoldable pub in_words : Settings → List (List ℕ) → List ℕ → ℕ → Arrival → List ℕ → Closing

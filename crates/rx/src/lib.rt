@@ -6,23 +6,19 @@ ghost use Rattle.std.specs.Prelude.{◌≡◌};
 ghost use Rattle.rules.specs.Answers.{answer_of, leading, part_shown, shown};
 
 use rules::receive::{Part, Received};
+use rules::refusal::Refusal;
 
 mod middle;
 pub mod subscription;
 
 // The bytes that an answer names, where they lie: a part of the frame that was answered, or of the store as that call left it. An empty part where the answer
 // names none, or names more than there is.
-pub fn payload<'a>(answer: Received, frame: &'a [u8], store: &'a [u8]) -> &'a [u8]
+pub fn payload<'a>(answer: Result<Received, Refusal>, frame: &'a [u8], store: &'a [u8]) -> &'a [u8]
     ensures { result.now ≡ shown (answer_of answer) frame.now store.now }
 {
     match answer {
-        Received::Delivered(delivery) => {
-            let part = delivery.part;
-            part_shown(part, frame, store)
-        }
-        Received::Nothing => &frame[..0],
-        Received::NotOurs => &frame[..0],
-        Received::Refused(_) => &frame[..0],
+        Ok(Received::Delivered(delivery)) => part_shown(delivery.part, frame, store),
+        _ => &frame[..0],
     }
 }
 

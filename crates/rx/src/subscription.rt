@@ -10,12 +10,12 @@ ghost use Rattle.rx.specs.Accept.{settings_made, words_made, Known, closes, in_w
 use crate::middle;
 use rules::data::{EXTENT_MAX, FRAME_CAPACITY};
 use rules::frame::Marks;
-use rules::header::{Header, ParsedCanId, ServiceHeader, Source};
-use rules::receive::{Arrival, Delivery, Part, Reading, Received};
+use rules::header::{Header, ServiceHeader};
+use rules::receive::{Arrival, Delivery, Part, Received};
 use rules::refusal::Refusal;
-use rules::slots::{Admitted, LastTime, Open, Slot};
+use rules::slots::Slot;
 use rules::subscription::{Port, ServicePort, Settings};
-use rules::types::{CanNodeId, CanTransferId};
+use rules::types::{CanNodeId, CanTransferId, Limited};
 use slots::Slots;
 
 // The slots and the store are lent with each call, the same ones.
@@ -24,27 +24,26 @@ pub struct Subscription {
     pub settings: Settings,
 }
 
-#[derive(Clone, Copy)]
-pub enum Subscribed {
-    Made(Subscription),
-    Refused(Refusal),
-}
-
 impl Subscription {
     // A subscription whose 128 slots have heard nothing yet. Refuses by 12, 8; the slots are then unchanged.
     #[tactic(auto, unfolding(slots::specs::Words::words_of))]
-    pub fn new(port: Port, timeout: u32, extent: usize, slots: &mut Slots) -> Subscribed
+    pub fn new(
+        port: Port,
+        timeout: u32,
+        extent: usize,
+        slots: &mut Slots,
+    ) -> Result<Subscription, Refusal>
         ensures subscribed { settings_made result ≡ made port timeout extent }
         ensures slots_after { slots.new ≡ words_made (made port timeout extent) slots.old }
     {
         if !port_valid(port) {
-            return Subscribed::Refused(Refusal::Field);
+            return Err(Refusal::Field);
         }
         if extent > EXTENT_MAX as usize {
-            return Subscribed::Refused(Refusal::ExtentTooLarge);
+            return Err(Refusal::ExtentTooLarge);
         }
         *slots = [[0u32; 4]; 128];
-        Subscribed::Made(Subscription {
+        Ok(Subscription {
             settings: Settings {
                 port,
                 timeout,
@@ -56,15 +55,21 @@ impl Subscription {
     // Takes a received frame. Refuses by 7, 2, 3, 1, 4, and a frame of another kind, port or destination is not ours: slots and store are then unchanged, as they
     // are by a repeat. Otherwise the rules of the sender's slot decide, which write in that slot and in its part of the store alone.
     #[tactic(auto, using(crate::proofs::Judging::too_small), unfolding(crate::specs::Accept::accepted))]
-    pub fn accept(self, slots: &mut Slots, store: &mut [u8], marks: Marks, bytes: &[u8]) -> Received
+    pub fn accept(
+        self,
+        slots: &mut Slots,
+        store: &mut [u8],
+        marks: Marks,
+        bytes: &[u8],
+    ) -> Result<Received, Refusal>
         ensures { closes (answer_of result) slots.new store.new ≡ accepted self.settings slots.old store.old (frame marks bytes.now) }
     {
         let settings = self.settings;
         if store.len() < 128 * (settings.extent as usize) {
-            return Received::Refused(Refusal::StoreTooSmall);
+            return Err(Refusal::StoreTooSmall);
         }
         if middle::joined(settings, slots, store, marks, bytes) {
-            return Received::Nothing;
+            return Ok(Received::Nothing);
         }
         judge(settings, slots, store, marks, bytes)
     }
@@ -83,12 +88,7 @@ fn port_valid(port: Port) -> bool
 fn service_valid(port: ServicePort) -> bool
     ensures { result ≡ service_valid port }
 {
-    let service = port.service;
-    let node = port.node;
-    if !service.is_valid() {
-        return false;
-    }
-    node.is_valid()
+    port.service.is_valid() && port.node.is_valid()
 }
 
 // A frame of any kind, where the store has a part for each source.
@@ -99,102 +99,66 @@ fn judge(
     store: &mut [u8],
     marks: Marks,
     bytes: &[u8],
-) -> Received
+) -> Result<Received, Refusal>
     requires { nodes * settings.extent ≤ length store.old }
     ensures { closes (answer_of result) slots.new store.new ≡ accepted settings slots.old store.old (frame marks bytes.now) }
 {
-    let port = settings.port;
-    match read(port, marks, bytes) {
-        Reading::Refused(refusal) => Received::Refused(refusal),
-        Reading::NotOurs => Received::NotOurs,
-        Reading::Ours(arrival) => {
-            let before = before_tail(bytes);
-            accept_ours(settings, slots, store, arrival, before)
-        }
-    }
+    let Some(arrival) = read(settings.port, marks, bytes)? else {
+        return Ok(Received::NotOurs);
+    };
+    accept_ours(settings, slots, store, arrival, before_tail(bytes))
 }
 
 // What the frame is to the subscription, whatever its slots.
 #[tactic(auto, unfolding(rules::specs::Receiver::reading))]
-fn read(port: Port, marks: Marks, bytes: &[u8]) -> Reading
+fn read(port: Port, marks: Marks, bytes: &[u8]) -> Result<Option<Arrival>, Refusal>
     ensures { result ≡ reading port (frame marks bytes.now) }
 {
     let len = bytes.len();
     if len == 0 {
-        return Reading::Refused(Refusal::NoBytes);
+        return Err(Refusal::NoBytes);
     }
     if FRAME_CAPACITY < len {
-        return Reading::Refused(Refusal::FrameTooLong);
+        return Err(Refusal::FrameTooLong);
     }
-    match wire::rx::parse_can_id(marks.id) {
-        ParsedCanId::Refused(refusal) => Reading::Refused(refusal),
-        ParsedCanId::Parsed(header) => {
-            if !wanted(port, header) {
-                return Reading::NotOurs;
-            }
-            let last = bytes[len - 1];
-            Reading::Ours(Arrival {
-                header,
-                tail: wire::rx::parse_tail_byte(last),
-                stamp: marks.stamp,
-                loopback: marks.loopback,
-            })
-        }
+    let header = wire::rx::parse_can_id(marks.id)?;
+    if !wanted(port, header) {
+        return Ok(None);
     }
+    Ok(Some(Arrival {
+        header,
+        tail: wire::rx::parse_tail_byte(bytes[len - 1]),
+        stamp: marks.stamp,
+        loopback: marks.loopback,
+    }))
 }
 
 // The kind and the port, and for services the destination.
 fn wanted(port: Port, header: Header) -> bool
     ensures { result ≡ wants port header }
 {
-    match port {
-        Port::Message(subject) => match header {
-            Header::Message(message) => {
-                let asked = message.subject;
-                subject.0 == asked.0
-            }
-            Header::Request(_) => false,
-            Header::Response(_) => false,
-        },
-        Port::Request(service) => match header {
-            Header::Message(_) => false,
-            Header::Request(request) => same_service(service, request),
-            Header::Response(_) => false,
-        },
-        Port::Response(service) => match header {
-            Header::Message(_) => false,
-            Header::Request(_) => false,
-            Header::Response(response) => same_service(service, response),
-        },
+    match (port, header) {
+        (Port::Message(subject), Header::Message(message)) => subject == message.subject,
+        (Port::Request(service), Header::Request(request)) => same_service(service, request),
+        (Port::Response(service), Header::Response(response)) => same_service(service, response),
+        _ => false,
     }
 }
 
 fn same_service(port: ServicePort, header: ServiceHeader) -> bool
     ensures { result ≡ same_service port header }
 {
-    let service = port.service;
-    let asked = header.service;
-    if service.0 != asked.0 {
-        return false;
-    }
-    let node = port.node;
-    let destination = header.destination;
-    node.0 == destination.0
+    port.service == header.service && port.node == header.destination
 }
 
 // The frame's bytes without its tail byte, uncopied.
 fn before_tail<'a>(bytes: &'a [u8]) -> &'a [u8]
     ensures { result.now ≡ before_tail bytes.now }
 {
-    let len = bytes.len();
-    if len == 0 {
-        return bytes;
-    }
-    let before = len - 1;
-    &bytes[..before]
+    &bytes[..bytes.len().saturating_sub(1)]
 }
 
-fn source_in(header: Header) -> Source
+fn source_in(header: Header) -> Option<CanNodeId>
     ensures { result ≡ source_in header }
 {
     match header {
@@ -211,17 +175,16 @@ fn accept_ours(
     store: &mut [u8],
     arrival: Arrival,
     bytes: &[u8],
-) -> Received
+) -> Result<Received, Refusal>
     requires { Known (source_in arrival.header) × (nodes * settings.extent ≤ length store.old) }
     ensures { closes (answer_of result) slots.new store.new ≡ by_source (source_in arrival.header) arrival bytes.now (λ answer. closes answer slots.old store.old) (in_words settings slots.old store.old) }
 {
-    let header = arrival.header;
-    match source_in(header) {
-        Source::Anonymous => {
+    match source_in(arrival.header) {
+        None => {
             let part = Part::OfFrame { len: bytes.len() };
-            session::deliver(arrival, arrival.stamp, arrival.loopback, part)
+            Ok(session::deliver(arrival, arrival.stamp, arrival.loopback, part))
         }
-        Source::Node(node) => {
+        Some(node) => {
             // The same node; the compiler sees from it that there is a slot, and leaves out that test.
             let own = CanNodeId::from_truncating(node.0);
             accept_from(settings, own, slots, store, arrival, bytes)
@@ -237,64 +200,51 @@ fn accept_from(
     store: &mut [u8],
     arrival: Arrival,
     bytes: &[u8],
-) -> Received
+) -> Result<Received, Refusal>
     requires { (node.0 < nodes) × (nodes * settings.extent ≤ length store.old) }
     ensures { closes (answer_of result) slots.new store.new ≡ in_words settings slots.old store.old node.0 arrival bytes.now }
 {
-    let tail = arrival.tail;
-    let transfer_id = tail.transfer_id;
+    let transfer_id = arrival.tail.transfer_id;
     let slot = slots::load(slots, node);
-    match admit(settings.timeout, slot, transfer_id, arrival.stamp) {
-        Admitted::Repeat => Received::Nothing,
-        Admitted::On(slot) => {
-            let extent = settings.extent as usize;
-            let start = start_of(node, settings.extent);
-            let end = start + extent;
-            let step = session::go_on(slot, &mut store[start..end], arrival, bytes);
-            let next = step.slot;
-            let answer = step.answer;
-            slots::save(slots, node, next);
-            lying_from(start, answer)
-        }
-    }
+    let Some(slot) = admit(settings.timeout, slot, transfer_id, arrival.stamp) else {
+        return Ok(Received::Nothing);
+    };
+    let extent = settings.extent as usize;
+    let start = start_of(node, settings.extent);
+    let end = start + extent;
+    let step = session::go_on(slot, &mut store[start..end], arrival, bytes);
+    slots::save(slots, node, step.slot);
+    lying_from(start, step.answer)
 }
 
 // The ID rule: a repeat, or go on, with a slot that was reset where the ID is a strange one.
 #[tactic(auto, unfolding(rules::specs::Slot::admitted))]
-fn admit(timeout: u32, slot: Slot, transfer_id: CanTransferId, stamp: u32) -> Admitted
+fn admit(timeout: u32, slot: Slot, transfer_id: CanTransferId, stamp: u32) -> Option<Slot>
     ensures { result ≡ admitted timeout slot transfer_id stamp }
 {
-    let expected = slot.expected;
-    if transfer_id.0 == expected.0 {
-        return Admitted::On(slot);
+    if transfer_id == slot.expected {
+        return Some(slot);
     }
-    let last_time = slot.last_time;
-    let next = transfer_id.increment();
-    if next.0 == expected.0 {
-        if !timed_out(timeout, last_time, stamp) {
-            return Admitted::Repeat;
-        }
+    if transfer_id.increment() == slot.expected && !timed_out(timeout, slot.last_time, stamp) {
+        return None;
     }
-    Admitted::On(Slot {
+    Some(Slot {
         expected: transfer_id,
-        last_time,
-        session: Open::Closed,
+        last_time: slot.last_time,
+        session: None,
     })
 }
 
 // Whether the last time is too long ago, unknown, or not to be compared.
 #[tactic(auto, using(crate::proofs::Ages::age_is))]
-fn timed_out(timeout: u32, last_time: LastTime, stamp: u32) -> bool
+fn timed_out(timeout: u32, last_time: Option<u32>, stamp: u32) -> bool
     ensures { result ≡ timed_out timeout last_time stamp }
 {
     match last_time {
-        LastTime::Never => true,
-        LastTime::At(last) => {
-            let age = std::num::wrapping_sub_u32(stamp, last);
-            if age >= 0x8000_0000 {
-                return true;
-            }
-            age > timeout
+        None => true,
+        Some(last) => {
+            let age = stamp.wrapping_sub(last);
+            age >= 0x8000_0000 || age > timeout
         }
     }
 }
@@ -306,26 +256,26 @@ pub(crate) fn start_of(source: CanNodeId, extent: u16) -> usize
     source.0 as usize * extent as usize
 }
 
-// The answer of a source whose part starts here.
-fn lying_from(start: usize, answer: Received) -> Received
+// The answer of a source whose part starts here. Case by case: by `..delivery` and `other => other` a frame of 7 bytes takes 237 instructions in the place of 201.
+fn lying_from(start: usize, answer: Result<Received, Refusal>) -> Result<Received, Refusal>
     ensures { answer_of result ≡ answer_from start (answer_of answer) }
 {
     match answer {
-        Received::Delivered(delivery) => {
+        Ok(Received::Delivered(delivery)) => {
             let header = delivery.header;
             let transfer_id = delivery.transfer_id;
             let part = delivery.part;
-            Received::Delivered(Delivery {
+            Ok(Received::Delivered(Delivery {
                 header,
                 transfer_id,
                 stamp: delivery.stamp,
                 loopback: delivery.loopback,
                 part: part_from(start, part),
-            })
+            }))
         }
-        Received::Nothing => Received::Nothing,
-        Received::NotOurs => Received::NotOurs,
-        Received::Refused(refusal) => Received::Refused(refusal),
+        Ok(Received::Nothing) => Ok(Received::Nothing),
+        Ok(Received::NotOurs) => Ok(Received::NotOurs),
+        Err(refusal) => Err(refusal),
     }
 }
 
@@ -334,6 +284,6 @@ fn part_from(start: usize, part: Part) -> Part
 {
     match part {
         Part::OfFrame { len } => Part::OfFrame { len },
-        Part::OfStore { start: _, len } => Part::OfStore { start, len },
+        Part::OfStore { len, .. } => Part::OfStore { start, len },
     }
 }

@@ -1,14 +1,8 @@
 // A frame's bytes join a transfer, after rx/buildup.rs.
-ghost use Rattle.std.specs.Prelude.{◌≡◌, ◌<◌, min};
+ghost use Rattle.std.specs.Prelude.{◌≡◌, ◌<◌};
 ghost use Rattle.rules.specs.Session.{joined, stored};
 
 use rules::slots::Session;
-
-pub(crate) fn least(a: usize, b: usize) -> usize
-    ensures { result ≡ min a b }
-{
-    if a < b { a } else { b }
-}
 
 // Lays the bytes behind the total that the part has, as far as the part reaches.
 #[tactic(auto, using(crate::proofs::Parts::lent_rest, crate::proofs::Parts::stored_full))]
@@ -29,7 +23,7 @@ pub(crate) fn add(session: Session, extent: usize, bytes: &[u8]) -> Session
 {
     let crc = crc::digest_bytes(session.crc, bytes);
     let sum = session.total as usize + bytes.len();
-    let total = least(extent + 2, sum);
+    let total = sum.min(extent + 2);
     Session {
         stamp: session.stamp,
         loopback: session.loopback,

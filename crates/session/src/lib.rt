@@ -2,7 +2,7 @@
 // the part lie, and how many there are, is not known here. No public function has a `requires`.
 #![tactic(auto)]
 
-ghost use Rattle.std.specs.Prelude.{◌≡◌, ◌&&◌, ◌<◌, length};
+ghost use Rattle.std.specs.Prelude.{◌≡◌, ◌<◌, length, Ok, Err, Some, None};
 ghost use Rattle.rules.specs.Slot.{with_session, settled};
 ghost use Rattle.rules.specs.Session.{opened, session_for, awaits, complete};
 ghost use Rattle.rules.specs.Source.{leaves, delivered_at, single, ended, continued, in_session, goes_on};
@@ -11,7 +11,7 @@ ghost use Rattle.session.specs.Turns.{turn_of, went_on};
 
 use rules::receive::{Arrival, Delivery, Part, Received};
 use rules::refusal::Refusal;
-use rules::slots::{LastTime, Open, Session, Slot};
+use rules::slots::{Session, Slot};
 
 mod buildup;
 
@@ -22,7 +22,7 @@ const PART_MAX: usize = 0xFFFF;
 #[derive(Clone, Copy)]
 pub struct Step {
     pub slot: Slot,
-    pub answer: Received,
+    pub answer: Result<Received, Refusal>,
 }
 
 // A frame that the ID rule let through. Refuses a part over PART_MAX by 8; slot and part are then unchanged.
@@ -32,7 +32,7 @@ pub fn go_on(slot: Slot, part: &mut [u8], arrival: Arrival, bytes: &[u8]) -> Ste
     if PART_MAX < part.len() {
         return Step {
             slot,
-            answer: Received::Refused(Refusal::ExtentTooLarge),
+            answer: Err(Refusal::ExtentTooLarge),
         };
     }
     take(slot, part, arrival, bytes)
@@ -44,16 +44,15 @@ fn take(slot: Slot, part: &mut [u8], arrival: Arrival, bytes: &[u8]) -> Step
     ensures { turn_of result part.new ≡ goes_on slot part.old arrival bytes.now }
 {
     let tail = arrival.tail;
-    if both(tail.start, tail.end) {
+    if tail.start && tail.end {
         return whole(slot, part, arrival, bytes);
     }
-    let session = slot.session;
-    match session_for(session, arrival) {
-        Open::Closed => Step {
+    match session_for(slot.session, arrival) {
+        Some(session) => accept(slot, part, arrival, bytes, session),
+        None => Step {
             slot,
-            answer: Received::Refused(Refusal::NoSession),
+            answer: Err(Refusal::NoSession),
         },
-        Open::With(session) => accept(slot, part, arrival, bytes, session),
     }
 }
 
@@ -61,8 +60,8 @@ fn take(slot: Slot, part: &mut [u8], arrival: Arrival, bytes: &[u8]) -> Step
 fn whole(slot: Slot, part: &[u8], arrival: Arrival, bytes: &[u8]) -> Step
     ensures { turn_of result part.now ≡ single slot part.now arrival bytes.now }
 {
-    let len = buildup::least(part.len(), bytes.len());
-    let answer = deliver(
+    let len = part.len().min(bytes.len());
+    let delivery = deliver(
         arrival,
         arrival.stamp,
         arrival.loopback,
@@ -70,23 +69,17 @@ fn whole(slot: Slot, part: &[u8], arrival: Arrival, bytes: &[u8]) -> Step
     );
     Step {
         slot: settle(slot, arrival.stamp),
-        answer,
+        answer: Ok(delivery),
     }
 }
 
 // The session that a frame comes to: the open one, or one that it opens if it is a start.
-fn session_for(session: Open, arrival: Arrival) -> Open
+fn session_for(session: Option<Session>, arrival: Arrival) -> Option<Session>
     ensures { result ≡ session_for session arrival }
 {
     match session {
-        Open::With(open) => Open::With(open),
-        Open::Closed => {
-            let tail = arrival.tail;
-            if tail.start {
-                return Open::With(open(arrival));
-            }
-            Open::Closed
-        }
+        Some(open) => Some(open),
+        None => arrival.tail.start.then_some(open(arrival)),
     }
 }
 
@@ -121,14 +114,9 @@ fn accept(slot: Slot, part: &mut [u8], arrival: Arrival, bytes: &[u8], session: 
 fn awaited(session: Session, arrival: Arrival) -> bool
     ensures { result ≡ awaits session arrival }
 {
-    let tail = arrival.tail;
-    if session.loopback != arrival.loopback {
-        return false;
-    }
-    if session.expect_start != tail.start {
-        return false;
-    }
-    session.expect_toggle == tail.toggle
+    session.loopback == arrival.loopback
+        && session.expect_start == arrival.tail.start
+        && session.expect_toggle == arrival.tail.toggle
 }
 
 // The session and the part have the frame's bytes.
@@ -136,8 +124,7 @@ fn awaited(session: Session, arrival: Arrival) -> bool
 fn go_on_or_end(slot: Slot, part: &[u8], arrival: Arrival, session: Session) -> Step
     ensures { turn_of result part.now ≡ continued slot part.now arrival session }
 {
-    let tail = arrival.tail;
-    if tail.end {
+    if arrival.tail.end {
         return end(slot, part, arrival, session);
     }
     hold(slot, session)
@@ -148,14 +135,11 @@ fn go_on_or_end(slot: Slot, part: &[u8], arrival: Arrival, session: Session) -> 
 fn end(slot: Slot, part: &[u8], arrival: Arrival, session: Session) -> Step
     ensures { turn_of result part.now ≡ ended slot part.now arrival session }
 {
-    if session.crc != 0 {
+    if session.crc != 0 || session.total < 2 {
         return drop_session(slot);
     }
-    if session.total < 2 {
-        return drop_session(slot);
-    }
-    let len = buildup::least(part.len(), session.total as usize - 2);
-    let answer = deliver(
+    let len = part.len().min(session.total as usize - 2);
+    let delivery = deliver(
         arrival,
         session.stamp,
         session.loopback,
@@ -163,46 +147,44 @@ fn end(slot: Slot, part: &[u8], arrival: Arrival, session: Session) -> Step
     );
     Step {
         slot: settle(slot, session.stamp),
-        answer,
+        answer: Ok(delivery),
     }
 }
 
 // A residue other than 0: the expected ID and the last time are kept.
 fn drop_session(slot: Slot) -> Step
-    ensures { result ≡ record { slot = with_session slot Open.Closed; answer = Received.Refused Refusal.Residue } }
+    ensures { result ≡ record { slot = with_session slot None; answer = Err Refusal.Residue } }
 {
-    let session = Open::Closed;
     Step {
-        slot: with_session(slot, session),
-        answer: Received::Refused(Refusal::Residue),
+        slot: with_session(slot, None),
+        answer: Err(Refusal::Residue),
     }
 }
 
 // Nothing to deliver yet.
 fn hold(slot: Slot, session: Session) -> Step
-    ensures { result ≡ record { slot = with_session slot (Open.With session); answer = Received.Nothing } }
+    ensures { result ≡ record { slot = with_session slot (Some session); answer = Ok Received.Nothing } }
 {
     Step {
-        slot: with_session(slot, Open::With(session)),
-        answer: Received::Nothing,
+        slot: with_session(slot, Some(session)),
+        answer: Ok(Received::Nothing),
     }
 }
 
 // The last time is taken apart and put together again: moved whole, it would go through one word of 64 bits.
-fn with_session(slot: Slot, session: Open) -> Slot
+fn with_session(slot: Slot, session: Option<Session>) -> Slot
     ensures { result ≡ with_session slot session }
 {
     let expected = slot.expected;
-    let last_time = slot.last_time;
-    match last_time {
-        LastTime::Never => Slot {
+    match slot.last_time {
+        Some(last) => Slot {
             expected,
-            last_time: LastTime::Never,
+            last_time: Some(last),
             session,
         },
-        LastTime::At(last) => Slot {
+        None => Slot {
             expected,
-            last_time: LastTime::At(last),
+            last_time: None,
             session,
         },
     }
@@ -212,36 +194,22 @@ fn with_session(slot: Slot, session: Open) -> Slot
 fn settle(slot: Slot, time: u32) -> Slot
     ensures { result ≡ settled slot time }
 {
-    let expected = slot.expected;
-    let next = expected.increment();
     Slot {
-        expected: next,
-        last_time: LastTime::At(time),
-        session: Open::Closed,
+        expected: slot.expected.increment(),
+        last_time: Some(time),
+        session: None,
     }
 }
 
 // A delivery with the header and the transfer ID of this frame.
 pub fn deliver(arrival: Arrival, stamp: u32, loopback: bool, part: Part) -> Received
-    ensures { answer_of result ≡ delivered_at arrival stamp loopback part }
+    ensures { answer_of (Ok result) ≡ delivered_at arrival stamp loopback part }
 {
-    let header = arrival.header;
-    let tail = arrival.tail;
-    let transfer_id = tail.transfer_id;
     Received::Delivered(Delivery {
-        header,
-        transfer_id,
+        header: arrival.header,
+        transfer_id: arrival.tail.transfer_id,
         stamp,
         loopback,
         part,
     })
-}
-
-fn both(a: bool, b: bool) -> bool
-    ensures { result ≡ (a && b) }
-{
-    if a {
-        return b;
-    }
-    false
 }

@@ -1,20 +1,18 @@
 // The bench sheet's cases.
 use crate::print::{Hex, Sheet};
 use rules::data::Mtu;
-use rules::header::{Header, MadeCanId, MessageHeader, ServiceHeader, Source};
-use rules::stats::{FrameStats, Planned};
+use rules::header::{Header, MessageHeader, ServiceHeader};
+use rules::stats::FrameStats;
 use rules::types::{CanNodeId, CanTransferId, Priority, ServiceId, SubjectId};
 use std::io;
 
 // The plan; none, no frames at all, for a payload over the limit.
 fn plan(payload_length: usize, mtu: Mtu) -> FrameStats {
-    match wire::calculate_frame_stats(payload_length, mtu) {
-        Planned::Stats(stats) => stats,
-        Planned::Refused(_) => FrameStats {
-            frames: 0,
-            last_frame_padding: 0,
-        },
-    }
+    let none = FrameStats {
+        frames: 0,
+        last_frame_padding: 0,
+    };
+    wire::calculate_frame_stats(payload_length, mtu).unwrap_or(none)
 }
 
 pub(crate) fn frames(payload_length: usize, mtu: Mtu) -> usize {
@@ -76,13 +74,10 @@ pub(crate) fn one_frame(sheet: &mut Sheet<impl Print>) -> io::Result<()> {
 
 // The CAN ID of a header; all ones, which is none, where it is refused.
 pub(crate) fn id_of(header: Header, payload: &[u8]) -> Hex<8> {
-    match wire::tx::make_can_id(header, payload) {
-        MadeCanId::Made(id) => Hex(id.0 as u64),
-        MadeCanId::Refused(_) => Hex(u64::MAX),
-    }
+    Hex(wire::tx::make_can_id(header, payload).map_or(u64::MAX, |id| u64::from(id.0)))
 }
 
-pub(crate) fn message(priority: u8, subject: u16, source: Source) -> Header {
+pub(crate) fn message(priority: u8, subject: u16, source: Option<CanNodeId>) -> Header {
     Header::Message(MessageHeader {
         priority: Priority(priority),
         subject: SubjectId(subject),
@@ -91,13 +86,13 @@ pub(crate) fn message(priority: u8, subject: u16, source: Source) -> Header {
 }
 
 // A node that sends.
-pub(crate) fn node(number: u8) -> Source {
-    Source::Node(CanNodeId(number))
+pub(crate) fn node(number: u8) -> Option<CanNodeId> {
+    Some(CanNodeId(number))
 }
 
 // A sender that has no number.
-pub(crate) fn nobody() -> Source {
-    Source::Anonymous
+pub(crate) fn nobody() -> Option<CanNodeId> {
+    None
 }
 
 pub(crate) fn service(priority: u8, service: u16, destination: u8, source: u8) -> ServiceHeader {

@@ -2,8 +2,8 @@
 use crate::cases;
 use crate::print::{Hex, Sheet};
 use rules::data::Mtu;
-use rules::header::{Header, ParsedCanId, Source};
-use rules::types::{CanNodeId, CanTransferId, TriedCanTransferId};
+use rules::header::Header;
+use rules::types::{CanNodeId, CanTransferId};
 use std::io;
 use tracker::CanTransferIdTracker;
 
@@ -42,10 +42,10 @@ pub(crate) fn heartbeat(sheet: &mut Sheet<impl Print>) -> io::Result<()> {
 
 // The destination and, behind it, the source that the CAN ID of a request says; none of any other.
 fn between(id: u32) -> Option<u16> {
-    let ParsedCanId::Parsed(Header::Request(request)) = wire::rx::parse_can_id(id) else {
+    let Ok(Header::Request(request)) = wire::rx::parse_can_id(id) else {
         return None;
     };
-    let Source::Node(source) = request.source else {
+    let Some(source) = request.source else {
         return None;
     };
     Some(u16::from_be_bytes([request.destination.0, source.0]))
@@ -100,8 +100,8 @@ impl Asking {
         let asked = self.tracker.next_transfer_id(CanNodeId(destination));
         self.tracker = asked.tracker;
         match asked.answer {
-            TriedCanTransferId::Valid(id) => id.0,
-            TriedCanTransferId::Refused(refusal) => refusal.number().wrapping_add(100),
+            Ok(id) => id.0,
+            Err(refusal) => refusal.number().wrapping_add(100),
         }
     }
 }

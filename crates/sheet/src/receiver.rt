@@ -6,7 +6,7 @@ use rules::receive::{Delivery, Received};
 use rules::refusal::Refusal;
 use rules::subscription::{Port, ServicePort, Settings};
 use rules::types::{CanNodeId, ServiceId, SubjectId};
-use rx::subscription::{Subscribed, Subscription};
+use rx::subscription::Subscription;
 use slots::Slots;
 use std::fmt::Display;
 use std::{fmt, io};
@@ -20,13 +20,13 @@ enum Answer {
     Refused(u8),
 }
 
-impl From<Received> for Answer {
-    fn from(answer: Received) -> Self {
+impl From<Result<Received, Refusal>> for Answer {
+    fn from(answer: Result<Received, Refusal>) -> Self {
         match answer {
-            Received::Delivered(_) => Answer::Delivered,
-            Received::Nothing => Answer::Nothing,
-            Received::NotOurs => Answer::NotOurs,
-            Received::Refused(refusal) => Answer::Refused(refusal.number()),
+            Ok(Received::Delivered(_)) => Answer::Delivered,
+            Ok(Received::Nothing) => Answer::Nothing,
+            Ok(Received::NotOurs) => Answer::NotOurs,
+            Err(refusal) => Answer::Refused(refusal.number()),
         }
     }
 }
@@ -55,16 +55,14 @@ impl<const STORE: usize> Listener<STORE> {
     // A subscription that has heard nothing yet; one that keeps no bytes if it is refused.
     fn new(port: Port, timeout: u32, extent: usize) -> Self {
         let mut slots = [[0; 4]; 128];
-        let subscription = match Subscription::new(port, timeout, extent, &mut slots) {
-            Subscribed::Made(subscription) => subscription,
-            Subscribed::Refused(_) => Subscription {
-                settings: Settings {
-                    port,
-                    timeout: 0,
-                    extent: 0,
-                },
+        let deaf = Subscription {
+            settings: Settings {
+                port,
+                timeout: 0,
+                extent: 0,
             },
         };
+        let subscription = Subscription::new(port, timeout, extent, &mut slots).unwrap_or(deaf);
         Listener {
             subscription,
             slots,
@@ -72,7 +70,7 @@ impl<const STORE: usize> Listener<STORE> {
         }
     }
 
-    fn accept(&mut self, marks: Marks, frame: &[u8]) -> Received {
+    fn accept(&mut self, marks: Marks, frame: &[u8]) -> Result<Received, Refusal> {
         self.subscription
             .accept(&mut self.slots, &mut self.store, marks, frame)
     }
@@ -192,9 +190,9 @@ pub(crate) fn second_time(sheet: &mut Sheet<impl Print>) -> io::Result<()> {
 }
 
 // The stamp of a delivery.
-fn stamp(answer: Received) -> Option<u32> {
+fn stamp(answer: Result<Received, Refusal>) -> Option<u32> {
     match answer {
-        Received::Delivered(Delivery { stamp, .. }) => Some(stamp),
+        Ok(Received::Delivered(Delivery { stamp, .. })) => Some(stamp),
         _ => None,
     }
 }
@@ -306,8 +304,8 @@ pub(crate) fn refusals(sheet: &mut Sheet<impl Print>) -> io::Result<()> {
 fn making(subject: u16, extent: usize) -> u8 {
     let mut slots = [[0; 4]; 128];
     match Subscription::new(Port::Message(SubjectId(subject)), 32, extent, &mut slots) {
-        Subscribed::Made(_) => 0,
-        Subscribed::Refused(refusal) => refusal.number(),
+        Ok(_) => 0,
+        Err(refusal) => refusal.number(),
     }
 }
 

@@ -1,11 +1,11 @@
 // The real sender over the real queue: what is sent is popped, and compared frame by frame with what the sheet or the document has.
 use crate::cases;
 use crate::print::Sheet;
-use queue::{ArrayQueue, Held, MadeQueue, Place};
+use queue::{ArrayQueue, Held, Place};
 use rules::frame::Marks;
 use rules::header::Header;
 use rules::refusal::Refusal;
-use rules::send::{Sending, Transfer};
+use rules::send::Transfer;
 use rules::types::CanTransferId;
 use std::fmt::Display;
 use std::io;
@@ -21,16 +21,13 @@ struct Line<const PLACES: usize> {
 impl<const PLACES: usize> Line<PLACES> {
     // An empty queue; one of no places if that many are refused.
     fn new() -> Self {
-        let queue = match ArrayQueue::new(PLACES) {
-            MadeQueue::Made(queue) => queue,
-            MadeQueue::Refused(_) => ArrayQueue {
-                head: 0,
-                length: 0,
-                capacity: 0,
-            },
+        let none = ArrayQueue {
+            head: 0,
+            length: 0,
+            capacity: 0,
         };
         Line {
-            queue,
+            queue: ArrayQueue::new(PLACES).unwrap_or(none),
             places: [[0; 76]; PLACES],
         }
     }
@@ -46,10 +43,7 @@ impl<const PLACES: usize> Line<PLACES> {
         let transmitter = CanTransmitter::new(mtu);
         let sent = transmitter.push(self.queue, &mut self.places, transfer, payload);
         self.queue = sent.queue;
-        match sent.answer {
-            Sending::Done => None,
-            Sending::Refused(refusal) => Some(refusal),
-        }
+        sent.answer.err()
     }
 
     fn push(&mut self, marks: Marks, bytes: &[u8]) {
@@ -63,10 +57,15 @@ impl<const PLACES: usize> Line<PLACES> {
             .queue;
     }
 
-    fn pop(&mut self) -> Held {
+    fn pop(&mut self) -> Option<Held> {
         let popped = self.queue.pop_frame(&self.places);
         self.queue = popped.queue;
         popped.held
+    }
+
+    // The stamp of the frame that leaves next; 0 where there is none.
+    fn pop_stamp(&mut self) -> u32 {
+        self.pop().map_or(0, |frame| frame.marks.stamp)
     }
 
     fn len(&self) -> usize {
@@ -92,10 +91,12 @@ impl<const PLACES: usize> Line<PLACES> {
 }
 
 // Whether a frame was found that has this ID and these bytes; behind its bytes a frame is handed out with zeros.
-fn is_frame(held: Held, id: u32, bytes: &[u8]) -> bool {
+fn is_frame(held: Option<Held>, id: u32, bytes: &[u8]) -> bool {
     let mut wanted = [0; 64];
     let length = blocks::copy(bytes, &mut wanted);
-    held.found && held.marks.id == id && held.length == length && held.bytes == wanted
+    held.is_some_and(|frame| {
+        frame.marks.id == id && frame.length == length && frame.bytes == wanted
+    })
 }
 
 // Cases 1 and 2: how many frames the sender queues.
@@ -199,12 +200,8 @@ pub(crate) fn returned_first(sheet: &mut Sheet<impl Print>) -> io::Result<()> {
         ..first
     };
     line.put_back(third, b"");
-    sheet.row("case 13, stamp of the first out", line.pop().marks.stamp, 3)?;
-    sheet.row(
-        "case 13, stamp of the second out",
-        line.pop().marks.stamp,
-        1,
-    )
+    sheet.row("case 13, stamp of the first out", line.pop_stamp(), 3)?;
+    sheet.row("case 13, stamp of the second out", line.pop_stamp(), 1)
 }
 
 // The number of the answer to a send: 0 for done, a refusal's otherwise.

@@ -1,5 +1,6 @@
 -- A session that is looked at and moved on in its words: the four bits from its own on are awaited as one number, and the marks of the session one frame further
 -- are the old ones but for the CRC, the start bit and the toggle.
+use Rattle.std.specs.Prelude.{None, Option, Some, unwrap_or}
 use mathlib.Core.Path.{◌≡◌, refl, sym, ap, ◌∙◌}
 use mathlib.Core.Bool.{Bool, true, false, not, cond, ◌&&◌, beq, and_assoc, false≢true}
 use mathlib.Core.List.{List, [], ◌∷◌}
@@ -10,16 +11,18 @@ use lib.ListN.{get_or}
 use borrow.Author.Tests.{eq-eqb, ne_eqb, eqb-true, eqb-false}
 use Rattle.laws.proofs.Choose.{first_chosen, both_true}
 use Rattle.rules.specs.declared.tail.TailByte.{TailByte as Tail}
-use Rattle.rules.specs.declared.slots.LastTime.TheVariants.{Never, At}
 use Rattle.rules.specs.declared.slots.Session.{Session}
-use Rattle.rules.specs.declared.slots.Open.{Open}
-use Rattle.rules.specs.declared.slots.Open.TheVariants.{Closed, With}
 use Rattle.rules.specs.declared.slots.Slot.{Slot}
 use Rattle.rules.specs.CanId.{bit}
 use Rattle.rules.specs.Slot.{with_session}
 use Rattle.slots.specs.declared.Progress.{Progress}
 use Rattle.slots.specs.Words.{time_words, session_marks, words_of, flag_of, last_time_in, session_in, slot_of}
 use Rattle.slots.specs.Middle.{session_awaits, slot_awaits, progress_in, session_on, open_on, words_on}
+
+-- a time that does not count is written as 0
+pub kept : (t : Option ℕ) → unwrap_or t 0 ≡ (time_words t).time
+kept (Some t) = refl
+kept None = refl
 
 -- ---- bits as numbers
 
@@ -72,7 +75,7 @@ read stamp m total =
 pub by_marks : (stamp total m : ℕ) (l t : Bool) → session_awaits (session_in stamp m total) l t ≡ session_awaits (session_in 0 m 0) l t
 by_marks stamp total m l t = go (flag_of (m / 512))
   where
-    go : (a : Bool) → session_awaits (cond a (With (read stamp m total)) Closed) l t ≡ session_awaits (cond a (With (read 0 m 0)) Closed) l t
+    go : (a : Bool) → session_awaits (cond a (Some (read stamp m total)) None) l t ≡ session_awaits (cond a (Some (read 0 m 0)) None) l t
     go true = refl
     go false = refl
 
@@ -113,7 +116,7 @@ marks_awaited m l t =
   where
     go : (a b c d : Bool) → (beq a true && (beq b l && (beq c false && beq d t)))
         ≡ session_awaits
-        (cond a (With record { stamp = 0; loopback = b; expect_start = c; expect_toggle = d; crc = m / 65536 % 65536; total = 0 }) Closed) l t
+        (cond a (Some record { stamp = 0; loopback = b; expect_start = c; expect_toggle = d; crc = m / 65536 % 65536; total = 0 }) None) l t
     go true b true d = sym (and_assoc (beq b l) false (beq d t))
     go true b false d = sym (and_assoc (beq b l) true (beq d t))
     go false b c d = refl
@@ -123,7 +126,7 @@ marks_awaited m l t =
 time_mark : (time m : ℕ) → (time_words (last_time_in time m)).mark ≡ 256 * (m / 256 % 2)
 time_mark time m = go (flag_of (m / 256)) ∙ ap (λ (n : ℕ). 256 * n) (flag_bit (m / 256))
   where
-    go : (b : Bool) → (time_words (cond b (At time) Never)).mark ≡ 256 * bit b
+    go : (b : Bool) → (time_words (cond b (Some time) None)).mark ≡ 256 * bit b
     go true = refl
     go false = refl
 
@@ -153,27 +156,27 @@ words_kept w p h = rw h
 
 -- a slot that awaits a frame expects its ID, and has a session that awaits it
 pub awaited : (slot : Slot) (tail : Tail) (l : Bool) → slot_awaits slot tail l ≡ true
-    → (s : Session) × (slot.session ≡ With s) × (eqb tail.transfer_id.0 slot.expected.0 ≡ true) × (session_awaits (With s) l tail.toggle ≡ true)
+    → (s : Session) × (slot.session ≡ Some s) × (eqb tail.transfer_id.0 slot.expected.0 ≡ true) × (session_awaits (Some s) l tail.toggle ≡ true)
 unfolding slot_awaits
 awaited slot tail l e =
     let b = both_true (eqb tail.transfer_id.0 slot.expected.0) (session_awaits slot.session l tail.toggle) e in
     go slot.session b.0 b.1
   where
-    go : (o : Open) → eqb tail.transfer_id.0 slot.expected.0 ≡ true → session_awaits o l tail.toggle ≡ true
-        → (s : Session) × (o ≡ With s) × (eqb tail.transfer_id.0 slot.expected.0 ≡ true) × (session_awaits (With s) l tail.toggle ≡ true)
-    go Closed d f = absurd (false≢true f)
-    go (With s) d f = (s, refl, d, f)
+    go : (o : Option Session) → eqb tail.transfer_id.0 slot.expected.0 ≡ true → session_awaits o l tail.toggle ≡ true
+        → (s : Session) × (o ≡ Some s) × (eqb tail.transfer_id.0 slot.expected.0 ≡ true) × (session_awaits (Some s) l tail.toggle ≡ true)
+    go None d f = absurd (false≢true f)
+    go (Some s) d f = (s, refl, d, f)
 
 -- a slot with a session is as far as the session is
-pub progress_of : (w : List ℕ) (s : Session) → (slot_of w).session ≡ With s → progress_in w ≡ record { crc = s.crc; total = s.total }
+pub progress_of : (w : List ℕ) (s : Session) → (slot_of w).session ≡ Some s → progress_in w ≡ record { crc = s.crc; total = s.total }
 unfolding slot_of progress_in
 progress_of w s e =
     let r : Session = read (get_or w 1 0) (get_or w 2 0) (get_or w 3 0) in
-    let c = first_chosen (flag_of (get_or w 2 0 / 512)) (With r) Closed (With s) e (λ y. let z : ◌≡◌ {A = ℕ} 0 1 = cc in omega arith) in
+    let c = first_chosen (flag_of (get_or w 2 0 / 512)) (Some r) None (Some s) e (λ y. let z : ◌≡◌ {A = ℕ} 0 1 = cc in omega arith) in
     let f : r ≡ s = cc in
     ap (λ (x : Session). record { crc = x.crc; total = x.total }) f
 
 -- and its words one frame further are those of the slot with the session one frame further
-pub words_with : (w : List ℕ) (p : Progress) (s : Session) → (slot_of w).session ≡ With s → words_on w p ≡ words_of (with_session (slot_of w) (With (session_on s p)))
+pub words_with : (w : List ℕ) (p : Progress) (s : Session) → (slot_of w).session ≡ Some s → words_on w p ≡ words_of (with_session (slot_of w) (Some (session_on s p)))
 unfolding words_on
-words_with w p s e = ap (λ (o : Open). open_on o w p) e
+words_with w p s e = ap (λ (o : Option Session). open_on o w p) e

@@ -1,4 +1,6 @@
 -- A slot that is written as four words and read again is that slot, since each field has bits of its own; and whatever is read from words can be written again.
+use Rattle.std.specs.Prelude.{None, Option, Some}
+use Rattle.rules.specs.declared.slots.Session.{Session}
 use mathlib.Core.Path.{◌≡◌, refl}
 use mathlib.Core.Bool.{true, false}
 use mathlib.Core.List.{List, []}
@@ -7,18 +9,14 @@ use native.Mathlib.Omega.{arith}
 use lib.ListN.{get_or}
 use Rattle.laws.proofs.Bits.{flag_le, flag_read}
 use Rattle.laws.proofs.Choose.{either_way}
-use Rattle.rules.specs.declared.slots.LastTime.{LastTime}
-use Rattle.rules.specs.declared.slots.LastTime.TheVariants.{Never, At}
-use Rattle.rules.specs.declared.slots.Open.{Open}
-use Rattle.rules.specs.declared.slots.Open.TheVariants.{Closed, With}
 use Rattle.rules.specs.declared.slots.Slot.{Slot}
 use Rattle.rules.specs.Slot.{fresh_slot}
 use Rattle.slots.specs.Words.{time_words, session_marks, session_words, words_of, flag_of, last_time_in, session_in, slot_of}
 
 -- a session's CRC fits its 16 bits
-abbrev pub OpenFits : Open → Type 0
-OpenFits Closed = Unit {0}
-OpenFits (With s) = s.crc < 2 ^ 16
+abbrev pub OpenFits : Option Session → Type 0
+OpenFits None = Unit {0}
+OpenFits (Some s) = s.crc < 2 ^ 16
 
 -- a slot's expected ID fits its 8 bits, and its session's CRC, if it has one, its 16
 abbrev pub SlotFits : Slot → Type 0
@@ -27,29 +25,29 @@ SlotFits s = (s.expected.0 < 256) × OpenFits s.session
 -- ---- written and read
 
 -- a session has no bits below the tenth
-high_marks : (o : Open) → (session_words o).marks % 512 ≡ 0
+high_marks : (o : Option Session) → (session_words o).marks % 512 ≡ 0
 unfolding session_marks
-high_marks Closed = refl
-high_marks (With s) = omega arith
+high_marks None = refl
+high_marks (Some s) = omega arith
 
-mark_le : (t : LastTime) → (time_words t).mark ≤ 256
-mark_le Never = omega arith
-mark_le (At t) = omega arith
+mark_le : (t : Option ℕ) → (time_words t).mark ≤ 256
+mark_le None = omega arith
+mark_le (Some t) = omega arith
 
 module _ (a e : ℕ) (high : a % 512 ≡ 0) (low : e < 256) where
-  id_read : (t : LastTime) → (a + (time_words t).mark + e) % 256 ≡ e
-  id_read Never = omega arith
-  id_read (At t) = omega arith
+  id_read : (t : Option ℕ) → (a + (time_words t).mark + e) % 256 ≡ e
+  id_read None = omega arith
+  id_read (Some t) = omega arith
 
-  time_read : (t : LastTime) → last_time_in (time_words t).time (a + (time_words t).mark + e) ≡ t
-  time_read Never = simp (flag_read false ((a + 0 + e) / 256 % 2) (omega arith))
-  time_read (At t) = simp (flag_read true ((a + 256 + e) / 256 % 2) (omega arith))
+  time_read : (t : Option ℕ) → last_time_in (time_words t).time (a + (time_words t).mark + e) ≡ t
+  time_read None = simp (flag_read false ((a + 0 + e) / 256 % 2) (omega arith))
+  time_read (Some t) = simp (flag_read true ((a + 256 + e) / 256 % 2) (omega arith))
 
 module _ (m e : ℕ) (h : m + e < 512) where
-  session_read : (o : Open) → OpenFits o → session_in (session_words o).stamp ((session_words o).marks + m + e) (session_words o).total ≡ o
+  session_read : (o : Option Session) → OpenFits o → session_in (session_words o).stamp ((session_words o).marks + m + e) (session_words o).total ≡ o
   unfolding session_marks
-  session_read Closed k = simp (flag_read false ((0 + m + e) / 512 % 2) (omega arith))
-  session_read (With s) k =
+  session_read None k = simp (flag_read false ((0 + m + e) / 512 % 2) (omega arith))
+  session_read (Some s) k =
       let w : ℕ = session_marks s + m + e in
       let l = flag_le s.loopback in
       let b = flag_le s.expect_start in

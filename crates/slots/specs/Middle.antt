@@ -1,11 +1,9 @@
 -- A slot and a frame in the middle of a transfer, which is neither its start nor its end: whether the slot awaits it, how far its session is, and its words with the
 -- session one frame further.
-use Rattle.std.specs.Prelude.{ℕ, Bool, false, not, ◌&&◌, List, eqb, get_or}
+use Rattle.std.specs.Prelude.{ℕ, Bool, false, not, ◌&&◌, List, eqb, get_or, None, Option, Some}
 use Rattle.std.specs.Bool.{beq}
 use Rattle.rules.specs.declared.tail.TailByte.{TailByte as Tail}
 use Rattle.rules.specs.declared.slots.Session.{Session}
-use Rattle.rules.specs.declared.slots.Open.{Open}
-use Rattle.rules.specs.declared.slots.Open.TheVariants.{Closed, With}
 use Rattle.rules.specs.declared.slots.Slot.{Slot}
 use Rattle.rules.specs.Slot.{with_session}
 use Rattle.slots.specs.declared.Progress.{Progress}
@@ -14,9 +12,9 @@ use Rattle.slots.specs.Words.{words_of, crc_in, slot_of}
 -- ---- awaited
 
 -- the session has its start, and awaits this loopback flag and this toggle
-abbrev pub session_awaits : Open → Bool → Bool → Bool
-session_awaits Closed loopback toggle = false
-session_awaits (With s) loopback toggle = beq s.loopback loopback && not s.expect_start && beq s.expect_toggle toggle
+abbrev pub session_awaits : Option Session → Bool → Bool → Bool
+session_awaits None loopback toggle = false
+session_awaits (Some s) loopback toggle = beq s.loopback loopback && not s.expect_start && beq s.expect_toggle toggle
 
 -- the slot expects the frame's ID, and its session the frame
 unfoldable pub slot_awaits : Slot → Tail → Bool → Bool
@@ -39,9 +37,9 @@ session_on s p = record {
   total = p.total;
 }
 
-abbrev pub open_on : Open → List ℕ → Progress → List ℕ
-open_on Closed w p = w
-open_on (With s) w p = words_of (with_session (slot_of w) (With (session_on s p)))
+abbrev pub open_on : Option Session → List ℕ → Progress → List ℕ
+open_on None w p = w
+open_on (Some s) w p = words_of (with_session (slot_of w) (Some (session_on s p)))
 
 -- the words of a slot whose session is this far; with no session, as they were
 unfoldable pub words_on : List ℕ → Progress → List ℕ

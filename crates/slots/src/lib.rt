@@ -7,7 +7,7 @@ ghost use Rattle.rules.specs.Slot.{fresh_slot};
 ghost use Rattle.slots.specs.Words.{time_words, session_marks, session_words, words_of, flag_of, last_time_in, session_in, slot_of};
 ghost use Rattle.slots.specs.Middle.{session_awaits, slot_awaits, progress_in, words_on};
 
-use rules::slots::{LastTime, Open, Session, Slot};
+use rules::slots::{Session, Slot};
 use rules::tail::TailByte;
 use rules::types::{CanNodeId, CanTransferId};
 
@@ -15,14 +15,14 @@ use rules::types::{CanNodeId, CanTransferId};
 pub type Slots = [[u32; 4]; 128];
 
 // The last time, and its bit of the marks.
-#[derive(Clone, Copy)]
+#[derive(Clone, Copy, Default)]
 pub(crate) struct TimeWords {
     time: u32,
     mark: u32,
 }
 
 // The session's words, its bits of the marks among them.
-#[derive(Clone, Copy)]
+#[derive(Clone, Copy, Default)]
 pub(crate) struct SessionWords {
     stamp: u32,
     marks: u32,
@@ -42,10 +42,9 @@ pub fn load(slots: &[[u32; 4]], source: CanNodeId) -> Slot
 {
     let i = source.0 as usize;
     if slots.len() <= i {
-        return fresh();
+        return unpack([0; 4]);
     }
-    let words = slots[i];
-    unpack(words)
+    unpack(slots[i])
 }
 
 // Writes the slot of a source; no other slot's words change, and none for a node that has no slot.
@@ -53,11 +52,9 @@ pub fn save(slots: &mut [[u32; 4]], source: CanNodeId, slot: Slot)
     ensures { slots.new ≡ set slots.old source.0 (words_of slot) }
 {
     let i = source.0 as usize;
-    if slots.len() <= i {
-        return;
+    if i < slots.len() {
+        slots[i] = pack(slot);
     }
-    let words = pack(slot);
-    slots[i] = words;
 }
 
 // Whether the slot of a source expects the ID of this tail byte, with a session that has its start and awaits the toggle and the loopback flag. False for a node
@@ -69,8 +66,7 @@ pub fn awaits(slots: &[[u32; 4]], source: CanNodeId, tail: TailByte, loopback: b
     if slots.len() <= i {
         return false;
     }
-    let own = slots[i];
-    let marks = own[2];
+    let marks = slots[i][2];
     let transfer_id = tail.transfer_id;
     if transfer_id.0 as u32 != marks % 256 {
         return false;
@@ -86,12 +82,9 @@ pub fn so_far(slots: &[[u32; 4]], source: CanNodeId) -> Progress
     if slots.len() <= i {
         return Progress { crc: 0, total: 0 };
     }
-    let own = slots[i];
-    let marks = own[2];
-    let total = own[3];
-    let crc = marks / 65536 % 65536;
+    let [_, _, marks, total] = slots[i];
     Progress {
-        crc: crc as u16,
+        crc: (marks / 65536 % 65536) as u16,
         total,
     }
 }
@@ -106,55 +99,36 @@ pub fn advance(slots: &mut [[u32; 4]], source: CanNodeId, progress: Progress)
         return;
     }
     let own = slots[i];
-    let marks = own[2];
-    if !flag(marks / 512) {
+    if !flag(own[2] / 512) {
         return;
     }
-    let next = words_on(own, progress);
-    slots[i] = next;
-}
-
-fn fresh() -> Slot
-    ensures { result ≡ fresh_slot }
-{
-    Slot {
-        expected: CanTransferId(0),
-        last_time: LastTime::Never,
-        session: Open::Closed,
-    }
+    slots[i] = words_on(own, progress);
 }
 
 fn pack(slot: Slot) -> [u32; 4]
     ensures { result ≡ words_of slot }
 {
-    let expected = slot.expected;
-    let last_time = slot.last_time;
-    let session = slot.session;
-    let t = time_words(last_time);
-    let s = session_words(session);
-    let marks = s.marks + t.mark + expected.0 as u32;
+    let t = time_words(slot.last_time);
+    let s = session_words(slot.session);
+    let marks = s.marks + t.mark + slot.expected.0 as u32;
     [t.time, s.stamp, marks, s.total]
 }
 
-fn time_words(last_time: LastTime) -> TimeWords
+fn time_words(last_time: Option<u32>) -> TimeWords
     ensures { (result ≡ time_words last_time) × (result.mark < 257) }
 {
     match last_time {
-        LastTime::Never => TimeWords { time: 0, mark: 0 },
-        LastTime::At(time) => TimeWords { time, mark: 256 },
+        None => TimeWords::default(),
+        Some(time) => TimeWords { time, mark: 256 },
     }
 }
 
-fn session_words(session: Open) -> SessionWords
+fn session_words(session: Option<Session>) -> SessionWords
     ensures { (result ≡ session_words session) × (result.marks < 2 ^ 32) × (result.marks % 512 ≡ 0) }
 {
     match session {
-        Open::Closed => SessionWords {
-            stamp: 0,
-            marks: 0,
-            total: 0,
-        },
-        Open::With(s) => SessionWords {
+        None => SessionWords::default(),
+        Some(s) => SessionWords {
             stamp: s.stamp,
             marks: session_marks(s),
             total: s.total,
@@ -175,42 +149,31 @@ fn session_marks(s: Session) -> u32
 fn unpack(words: [u32; 4]) -> Slot
     ensures { result ≡ slot_of words }
 {
-    let time = words[0];
-    let stamp = words[1];
-    let marks = words[2];
-    let total = words[3];
-    let last_time = last_time_in(time, marks);
-    let session = session_in(stamp, marks, total);
+    let [time, stamp, marks, total] = words;
     Slot {
         expected: CanTransferId((marks % 256) as u8),
-        last_time,
-        session,
+        last_time: last_time_in(time, marks),
+        session: session_in(stamp, marks, total),
     }
 }
 
-fn last_time_in(time: u32, marks: u32) -> LastTime
+fn last_time_in(time: u32, marks: u32) -> Option<u32>
     ensures { result ≡ last_time_in time marks }
 {
-    if flag(marks / 256) {
-        return LastTime::At(time);
-    }
-    LastTime::Never
+    flag(marks / 256).then_some(time)
 }
 
-fn session_in(stamp: u32, marks: u32, total: u32) -> Open
+fn session_in(stamp: u32, marks: u32, total: u32) -> Option<Session>
     ensures { result ≡ session_in stamp marks total }
 {
-    if flag(marks / 512) {
-        return Open::With(Session {
-            stamp,
-            loopback: flag(marks / 1024),
-            expect_start: flag(marks / 2048),
-            expect_toggle: flag(marks / 4096),
-            crc: (marks / 65536 % 65536) as u16,
-            total,
-        });
-    }
-    Open::Closed
+    flag(marks / 512).then_some(Session {
+        stamp,
+        loopback: flag(marks / 1024),
+        expect_start: flag(marks / 2048),
+        expect_toggle: flag(marks / 4096),
+        crc: (marks / 65536 % 65536) as u16,
+        total,
+    })
 }
 
 fn flag(n: u32) -> bool
@@ -231,22 +194,10 @@ fn words_on(words: [u32; 4], progress: Progress) -> [u32; 4]
     requires { flag_of (get_or words 2 0 / 512) ≡ true }
     ensures { result ≡ words_on words progress }
 {
-    let time = words[0];
-    let stamp = words[1];
-    let marks = words[2];
-    let kept = time_kept(time, marks);
+    let [time, stamp, marks, _] = words;
+    let kept = last_time_in(time, marks).unwrap_or(0);
     let toggle = 1 - marks / 4096 % 2;
     let loopback = marks / 1024 % 2;
     let next = progress.crc as u32 * 65536 + 4096 * toggle + 1024 * loopback + 512 + marks % 512;
     [kept, stamp, next, progress.total]
-}
-
-// A time that does not count is written as 0.
-fn time_kept(time: u32, marks: u32) -> u32
-    ensures { result ≡ (time_words (last_time_in time marks)).time }
-{
-    if flag(marks / 256) {
-        return time;
-    }
-    0
 }

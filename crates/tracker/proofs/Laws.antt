@@ -1,5 +1,6 @@
 -- What asking does to a tracker. Its words and its numbers are two ways to write the row, so what the book says of the numbers holds of the tracker,
 -- and no two trackers have the same numbers.
+use Rattle.std.specs.Prelude.{Err}
 use mathlib.Core.Path.{◌≡◌, refl, sym, ap, ◌∙◌}
 use mathlib.Core.Logic.{◌≢◌}
 use mathlib.Core.List.{List}
@@ -15,7 +16,6 @@ use Rattle.laws.proofs.Digits.{length_digits, are_digits, set_digits, there_and_
 use Rattle.rules.specs.Limits.{greatest_node, nodes, transfer_ids}
 use Rattle.rules.specs.Tracker.{fresh_numbers, after_asking}
 use Rattle.rules.specs.declared.refusal.Refusal.TheVariants.{Field}
-use Rattle.rules.specs.declared.types.TriedCanTransferId.TheVariants.{Refused}
 use Rattle.rules.proofs.Tracker as book
 use Rattle.tracker.specs.declared.CanTransferIdTracker.{CanTransferIdTracker}
 use Rattle.tracker.specs.Row.{words, word_base, numbers, row_of, asked, Sound}
@@ -47,9 +47,9 @@ pub one_tracker : (t u : CanTransferIdTracker) → Sound t → Sound u → numbe
 one_tracker t u st su e = sym (row_numbers t st) ∙ ap row_of e ∙ row_numbers u su
 
 -- a destination over the greatest node is refused, and the tracker is unchanged
-pub refused : (t : CanTransferIdTracker) (n : ℕ) → Sound t → greatest_node < n → asked t n ≡ record { tracker = t; answer = Refused Field }
+pub refused : (t : CanTransferIdTracker) (n : ℕ) → Sound t → greatest_node < n → asked t n ≡ record { tracker = t; answer = Err Field }
 unfolding asked
-refused t n s h = simp (lt-leb n greatest_node h) (ap (λ (u : CanTransferIdTracker). record { tracker = u; answer = Refused Field }) (row_numbers t s))
+refused t n s h = simp (lt-leb n greatest_node h) (ap (λ (u : CanTransferIdTracker). record { tracker = u; answer = Err Field }) (row_numbers t s))
 
 -- the numbers after asking are what the book says
 pub numbers_after : (t : CanTransferIdTracker) (n : ℕ) → numbers (asked t n).tracker ≡ after_asking (numbers t) n

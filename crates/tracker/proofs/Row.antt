@@ -1,5 +1,6 @@
 -- What the words and the numbers of a row say of each other: both write it, so words in which only one number is stepped are the words of the row
 -- that the book steps.
+use Rattle.std.specs.Prelude.{Ok}
 use mathlib.Core.Path.{◌≡◌, sym, ap, ap₂, ◌∙◌}
 use mathlib.Core.List.{List}
 use Prim.Native.Nat.{ℕ, ◌+◌, ◌*◌, ◌/◌, ◌%◌, ◌^◌, ◌≤◌, ◌<◌}
@@ -15,7 +16,6 @@ use Rattle.laws.proofs.Digits.{length_digits, digit, digits_value, sets_digits, 
 use Rattle.laws.proofs.Parts.{pow_pow, value_part, value_sets, value_set}
 use Rattle.rules.specs.Limits.{greatest_node, nodes, transfer_ids, incremented}
 use Rattle.rules.specs.declared.types.CanTransferId.{CanTransferId}
-use Rattle.rules.specs.declared.types.TriedCanTransferId.TheVariants.{Valid}
 use Rattle.tracker.specs.declared.CanTransferIdTracker.{CanTransferIdTracker}
 use Rattle.tracker.specs.Five.{five_at, with_five}
 use Rattle.tracker.specs.Row.{words, word_base, numbers, row_of, asked, Sound}
@@ -82,7 +82,7 @@ module _ (t : CanTransferIdTracker) (sound : Sound t) (n k s : ℕ) (node : n �
 
   -- where next is one more, the new words and the number are what the book gives
   pub stepped : (id : CanTransferId) → AreDigits word_base vs → id ≡ record { 0 = five_at x s } → next ≡ incremented id
-      → record { tracker = record { ids = sets t.ids k vs }; answer = Valid id } ≡ asked t n
+      → record { tracker = record { ids = sets t.ids k vs }; answer = Ok id } ≡ asked t n
   unfolding asked
   stepped id digits five step =
       let sound' : Sound (record { ids = sets t.ids k vs }) =
@@ -92,5 +92,5 @@ module _ (t : CanTransferIdTracker) (sound : Sound t) (n k s : ℕ) (node : n �
       } in
       let e : next.0 ≡ (five_at x s + 1) % transfer_ids = ap (λ (i : CanTransferId). i.0) (step ∙ ap incremented five) in
       simp (le-leb n greatest_node node, number)
-      (ap₂ (λ (r : CanTransferIdTracker) (i : CanTransferId). record { tracker = r; answer = Valid i })
+      (ap₂ (λ (r : CanTransferIdTracker) (i : CanTransferId). record { tracker = r; answer = Ok i })
       (row_is (record { ids = sets t.ids k vs }) sound' (set (numbers t) n next.0) written ∙ ap (λ (j : ℕ). row_of (set (numbers t) n j)) e) five)

@@ -8,7 +8,8 @@ ghost use Rattle.rules.specs.Tracker.{fresh_numbers};
 ghost use Rattle.tracker.specs.Five.{five_at, with_five};
 ghost use Rattle.tracker.specs.Row.{words, row_of, asked};
 
-use rules::types::{CanNodeId, CanTransferId, TriedCanNodeId, TriedCanTransferId};
+use rules::refusal::Refusal;
+use rules::types::{CanNodeId, CanTransferId, Limited};
 
 #[derive(Clone, Copy)]
 pub struct CanTransferIdTracker {
@@ -19,7 +20,7 @@ pub struct CanTransferIdTracker {
 #[derive(Clone, Copy)]
 pub struct Asked {
     pub tracker: CanTransferIdTracker,
-    pub answer: TriedCanTransferId,
+    pub answer: Result<CanTransferId, Refusal>,
 }
 
 impl CanTransferIdTracker {
@@ -34,13 +35,12 @@ impl CanTransferIdTracker {
     pub fn next_transfer_id(self, destination: CanNodeId) -> Asked
         ensures { result ≡ asked self destination.0 }
     {
-        let tried = CanNodeId::try_from(destination.0);
-        match tried {
-            TriedCanNodeId::Refused(refusal) => Asked {
+        match destination.judged() {
+            Ok(node) => of_node(self, node),
+            Err(refusal) => Asked {
                 tracker: self,
-                answer: TriedCanTransferId::Refused(refusal),
+                answer: Err(refusal),
             },
-            TriedCanNodeId::Valid(node) => of_node(self, node),
         }
     }
 }
@@ -72,8 +72,8 @@ fn in_one(tracker: CanTransferIdTracker, at: usize, shift: u32) -> Asked
     let next = with_five(word, shift, after);
     ids[at] = next as u32;
     Asked {
-        tracker: CanTransferIdTracker { ids: ids },
-        answer: TriedCanTransferId::Valid(id),
+        tracker: CanTransferIdTracker { ids },
+        answer: Ok(id),
     }
 }
 
@@ -92,8 +92,8 @@ fn in_two(tracker: CanTransferIdTracker, at: usize, shift: u32) -> Asked
     ids[at] = (next & 0xffff_ffff) as u32;
     ids[at + 1] = (next >> 32) as u32;
     Asked {
-        tracker: CanTransferIdTracker { ids: ids },
-        answer: TriedCanTransferId::Valid(id),
+        tracker: CanTransferIdTracker { ids },
+        answer: Ok(id),
     }
 }
 

@@ -2,17 +2,14 @@
 // function has a `requires`.
 #![tactic(auto)]
 
-ghost use Rattle.std.specs.Prelude.{◌≡◌, ◌-◌};
-ghost use Rattle.rules.specs.declared.send.Judged.TheVariants.{Goes, Refused};
-ghost use Rattle.rules.specs.declared.send.Sending.TheVariants.{Done, Refused as NotDone};
+ghost use Rattle.std.specs.Prelude.{◌≡◌, ◌-◌, Err, Ok};
 ghost use Rattle.rules.specs.Sending.{counted};
 ghost use Rattle.tx.specs.Send.{counts_of, with_counts, verdict, Sends};
 
 use queue::{ArrayQueue, Place};
 use rules::frame::Marks;
-use rules::placing::Placing;
 use rules::refusal::Refusal;
-use rules::send::{Judged, Outgoing, Sending, Transfer};
+use rules::send::{Outgoing, Transfer};
 
 mod breakdown;
 mod judge;
@@ -32,7 +29,7 @@ pub struct CanTransmitter {
 pub struct Sent {
     pub transmitter: CanTransmitter,
     pub queue: ArrayQueue,
-    pub answer: Sending,
+    pub answer: Result<(), Refusal>,
 }
 
 impl CanTransmitter {
@@ -60,10 +57,7 @@ impl CanTransmitter {
     pub fn mtu(self) -> usize
         ensures { result ≡ self.mtu - 1 }
     {
-        if self.mtu == 0 {
-            return 0;
-        }
-        self.mtu - 1
+        self.mtu.saturating_sub(1)
     }
 
     pub fn transfer_count(self) -> u64
@@ -89,60 +83,67 @@ impl CanTransmitter {
     ) -> Sent
         ensures { Sends (verdict self queue places.old transfer payload.now) self queue places.old transfer payload.now result places.new }
     {
-        match judge::judge(self.mtu, transfer, payload) {
-            Judged::Refused(refusal) => self.refused(queue, refusal),
-            Judged::Goes(outgoing) => {
-                let stats = outgoing.stats;
-                match queue.try_reserve(places, stats.frames) {
-                    Placing::Refused(refusal) => self.refused(queue, refusal),
-                    Placing::Placed => {
-                        let id = outgoing.id;
-                        let marks = Marks {
-                            stamp: transfer.stamp,
-                            id: id.0,
-                            loopback: transfer.loopback,
-                        };
-                        let transfer_id = transfer.transfer_id;
-                        let filled = put::transfer(
-                            queue,
-                            places,
-                            marks,
-                            transfer_id,
-                            outgoing,
-                            payload,
-                        );
-                        self.done(filled, outgoing)
-                    }
-                }
+        match self.verdict(queue, places, transfer, payload) {
+            Err(refusal) => self.refused(queue, refusal),
+            Ok(outgoing) => {
+                let marks = Marks {
+                    stamp: transfer.stamp,
+                    id: outgoing.id.0,
+                    loopback: transfer.loopback,
+                };
+                let filled = put::transfer(
+                    queue,
+                    places,
+                    marks,
+                    transfer.transfer_id,
+                    outgoing,
+                    payload,
+                );
+                self.done(filled, outgoing)
             }
         }
     }
 
+    // How the transfer goes out, which has a place for each of its frames.
+    fn verdict(
+        self,
+        queue: ArrayQueue,
+        places: &[Place],
+        transfer: Transfer,
+        payload: &[u8],
+    ) -> Result<Outgoing, Refusal>
+        ensures { result ≡ verdict self queue places.now transfer payload.now }
+    {
+        let outgoing = judge::judge(self.mtu, transfer, payload)?;
+        queue.try_reserve(places, outgoing.stats.frames)?;
+        Ok(outgoing)
+    }
+
     fn done(self, queue: ArrayQueue, outgoing: Outgoing) -> Sent
-        ensures { result ≡ record { transmitter = with_counts self (counted (Goes outgoing) (counts_of self)); queue = queue; answer = Done } }
+        ensures { result ≡ record { transmitter = with_counts self (counted (Ok outgoing) (counts_of self)); queue = queue; answer = Ok tt } }
     {
         Sent {
             transmitter: CanTransmitter {
                 mtu: self.mtu,
-                transfer_count: std::num::wrapping_add_u64(self.transfer_count, 1),
+                transfer_count: self.transfer_count.wrapping_add(1),
                 error_count: self.error_count,
             },
             queue,
-            answer: Sending::Done,
+            answer: Ok(()),
         }
     }
 
     fn refused(self, queue: ArrayQueue, refusal: Refusal) -> Sent
-        ensures { result ≡ record { transmitter = with_counts self (counted (Refused refusal) (counts_of self)); queue = queue; answer = NotDone refusal } }
+        ensures { result ≡ record { transmitter = with_counts self (counted (Err refusal) (counts_of self)); queue = queue; answer = Err refusal } }
     {
         Sent {
             transmitter: CanTransmitter {
                 mtu: self.mtu,
                 transfer_count: self.transfer_count,
-                error_count: std::num::wrapping_add_u64(self.error_count, 1),
+                error_count: self.error_count.wrapping_add(1),
             },
             queue,
-            answer: Sending::Refused(refusal),
+            answer: Err(refusal),
         }
     }
 }

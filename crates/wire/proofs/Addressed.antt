@@ -1,4 +1,7 @@
 -- To whom an ID speaks, told off its bits in the order in which they are looked at.
+use Rattle.std.specs.Prelude.{Err, None, Ok, Result, Some}
+use Rattle.rules.specs.declared.header.Header.{Header}
+use Rattle.rules.specs.declared.refusal.Refusal.{Refusal}
 use mathlib.Core.Path.{◌≡◌, refl}
 use mathlib.Core.Bool.{Bool, true, false, not, cond, ◌&&◌, ◌||◌, beq}
 use Prim.Native.Nat.{ℕ}
@@ -7,28 +10,25 @@ use Rattle.rules.specs.declared.refusal.Refusal.TheVariants.{CanId as CanIdTooLa
 use Rattle.rules.specs.declared.types.CanNodeId.{CanNodeId}
 use Rattle.rules.specs.declared.types.ServiceId.{ServiceId}
 use Rattle.rules.specs.declared.types.SubjectId.{SubjectId}
-use Rattle.rules.specs.declared.header.Source.TheVariants.{Node, Anonymous}
 use Rattle.rules.specs.declared.header.Header.TheVariants.{Message, Request, Response}
-use Rattle.rules.specs.declared.header.ParsedCanId.{ParsedCanId}
-use Rattle.rules.specs.declared.header.ParsedCanId.TheVariants.{Parsed, Refused}
 use Rattle.rules.specs.Limits.{greatest_can_id}
 use Rattle.rules.specs.CanId.{bits_at, is_set, service_header_of, parsed_can_id}
 use Rattle.wire.specs.Addressed.{message_to, service_to}
 
 -- what an ID says, where these are its tests: 29 bits, bits 23, 25, 7 and 24
-abbrev said : ℕ → Bool → Bool → Bool → Bool → Bool → ParsedCanId
+abbrev said : ℕ → Bool → Bool → Bool → Bool → Bool → Result Header Refusal
 said id v r s q a =
     cond v
-    (cond (r || (not s && q)) (Refused ReservedBit)
-    (Parsed
+    (cond (r || (not s && q)) (Err ReservedBit)
+    (Ok
     (cond s (cond a (Request (service_header_of id)) (Response (service_header_of id)))
     (Message
     record {
       priority = record { 0 = bits_at id 26 3 };
       subject = record { 0 = bits_at id 8 13 };
-      source = cond a Anonymous (Node (record { 0 = bits_at id 0 7 }));
+      source = cond a None (Some (record { 0 = bits_at id 0 7 }));
     }))))
-    (Refused CanIdTooLarge)
+    (Err CanIdTooLarge)
 
 pub message_said : (id : ℕ) (subject : SubjectId) → message_to subject (parsed_can_id id)
     ≡ (leb id greatest_can_id && not (is_set id 23) && not (is_set id 25) && not (is_set id 7) && not (is_set id 24) && eqb subject.0 (bits_at id 8 13))

@@ -1,1 +1,2 @@
 pub mod Addressed
+pub mod Ceil

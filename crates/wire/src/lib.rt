@@ -8,7 +8,7 @@ ghost use Rattle.rules.specs.Plan.{next_length, crc_length, up_to, stats_of, pla
 
 use rules::data::{Mtu, PAYLOAD_MAX};
 use rules::refusal::Refusal;
-use rules::stats::{FrameStats, Planned};
+use rules::stats::FrameStats;
 
 pub mod breakdown;
 pub mod rx;
@@ -29,14 +29,6 @@ fn round_up_frame_length(length: usize) -> usize
     FRAME_LENGTHS[length] as usize
 }
 
-// The quotient, rounded up.
-fn div_ceil(x: usize, m: usize) -> usize
-    requires { (0 < m) × (m ≤ 64) × (x ≤ 8192) }
-    ensures { (result ≡ up_to x m) × (result ≤ x + m) }
-{
-    (x + (m - 1)) / m
-}
-
 // A transfer of one frame has no CRC.
 fn crc_length(payload_length: usize, mtu: Mtu) -> usize
     ensures { result ≡ crc_length mtu payload_length }
@@ -48,33 +40,27 @@ fn crc_length(payload_length: usize, mtu: Mtu) -> usize
     }
 }
 
-fn at_least_one(x: usize) -> usize
-    ensures { result ≡ max 1 x }
-{
-    if x < 1 { 1 } else { x }
-}
-
 fn stats(payload_length: usize, mtu: Mtu) -> FrameStats
     requires { payload_length ≤ greatest_payload }
     ensures { result ≡ stats_of mtu payload_length }
 {
     let size = mtu.as_bytes();
     let carried = payload_length + crc_length(payload_length, mtu);
-    let tail_bytes = at_least_one(div_ceil(carried, size - 1));
+    let tail_bytes = carried.div_ceil(size - 1).max(1);
     let total_length = carried + tail_bytes;
     let last_frame_length = total_length % size;
     FrameStats {
-        frames: div_ceil(total_length, size),
+        frames: total_length.div_ceil(size),
         last_frame_padding: round_up_frame_length(last_frame_length) - last_frame_length,
     }
 }
 
 // How many frames a payload takes at this MTU, and the padding that gives the last a length that CAN FD has. A payload over the greatest: refusal 10.
-pub fn calculate_frame_stats(payload_length: usize, mtu: Mtu) -> Planned
+pub fn calculate_frame_stats(payload_length: usize, mtu: Mtu) -> Result<FrameStats, Refusal>
     ensures { result ≡ planned mtu payload_length }
 {
     if PAYLOAD_MAX < payload_length {
-        return Planned::Refused(Refusal::PayloadTooLong);
+        return Err(Refusal::PayloadTooLong);
     }
-    Planned::Stats(stats(payload_length, mtu))
+    Ok(stats(payload_length, mtu))
 }

@@ -5,38 +5,36 @@ ghost use Rattle.rules.specs.TailByte.{parsed_tail};
 ghost use Rattle.wire.specs.Addressed.{message_to, service_to};
 
 use rules::data::CanId;
-use rules::header::{Header, MessageHeader, ParsedCanId, ServiceHeader, Source};
+use rules::header::{Header, MessageHeader, ServiceHeader};
 use rules::refusal::Refusal;
 use rules::tail::TailByte;
-use rules::types::{CanNodeId, CanTransferId, Priority, ServiceId, SubjectId};
+use rules::types::{CanNodeId, CanTransferId, Limited, Priority, ServiceId, SubjectId};
 
 // The header that a received CAN ID says. 2^29 or more: refusal 1; a reserved bit: refusal 4. Bits 21 and 22 are not looked at.
 #[tactic(auto, unfolding(rules::specs::CanId::parsed_can_id))]
-pub fn parse_can_id(id: u32) -> ParsedCanId
+pub fn parse_can_id(id: u32) -> Result<Header, Refusal>
     ensures { result ≡ parsed_can_id id }
 {
-    if !CanId(id).is_valid() {
-        return ParsedCanId::Refused(Refusal::CanId);
-    }
+    CanId::try_from(id)?;
     parse_header(id)
 }
 
-fn parse_header(id: u32) -> ParsedCanId
+fn parse_header(id: u32) -> Result<Header, Refusal>
     ensures { result ≡ said_by id }
 {
     if bit_set(id, 23) {
-        return ParsedCanId::Refused(Refusal::ReservedBit);
+        return Err(Refusal::ReservedBit);
     }
     if bit_set(id, 25) {
         if bit_set(id, 24) {
-            return ParsedCanId::Parsed(Header::Request(service_header(id)));
+            return Ok(Header::Request(service_header(id)));
         }
-        return ParsedCanId::Parsed(Header::Response(service_header(id)));
+        return Ok(Header::Response(service_header(id)));
     }
     if bit_set(id, 7) {
-        return ParsedCanId::Refused(Refusal::ReservedBit);
+        return Err(Refusal::ReservedBit);
     }
-    ParsedCanId::Parsed(Header::Message(message_header(id)))
+    Ok(Header::Message(message_header(id)))
 }
 
 // Whether a CAN ID says a message to this subject, from a source that is named. No header is made.
@@ -133,13 +131,13 @@ fn priority(id: u32) -> Priority
 }
 
 // An anonymous message names no source.
-fn message_source(id: u32) -> Source
+fn message_source(id: u32) -> Option<CanNodeId>
     ensures { result ≡ source_of id }
 {
     if bit_set(id, 24) {
-        return Source::Anonymous;
+        return None;
     }
-    Source::Node(node(id, 0))
+    Some(node(id, 0))
 }
 
 fn message_header(id: u32) -> MessageHeader
@@ -159,6 +157,6 @@ fn service_header(id: u32) -> ServiceHeader
         priority: priority(id),
         service: ServiceId(field(id, 14, 9) as u16),
         destination: node(id, 7),
-        source: Source::Node(node(id, 0)),
+        source: Some(node(id, 0)),
     }
 }

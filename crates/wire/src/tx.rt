@@ -1,16 +1,16 @@
 // The CAN ID made, after tx.rs.
 ghost use Rattle.std.specs.Prelude.{◌≡◌, ◌≤◌};
 ghost use Rattle.rules.specs.Limits.{greatest_priority, greatest_subject, greatest_service, greatest_node};
-ghost use Rattle.rules.specs.CanId.{message_id, service_id, xor_all, pseudo_source, message_made, service_made, message_from, service_can_id, can_id_of};
+ghost use Rattle.rules.specs.CanId.{message_id, service_id, xor_all, pseudo_source, message_made, message_from, service_can_id, can_id_of};
 
 use rules::data::CanId;
-use rules::header::{Header, MadeCanId, MessageHeader, ServiceHeader, Source};
+use rules::header::{Header, MessageHeader, ServiceHeader};
 use rules::refusal::Refusal;
-use rules::types::{CanNodeId, Priority, SubjectId};
+use rules::types::{CanNodeId, Limited, Priority, SubjectId};
 
 // The CAN ID under which a transfer is sent. A field out of its limits, or a service transfer with no source: refusal 12.
 #[tactic(auto, unfolding(rules::specs::CanId::can_id_of))]
-pub fn make_can_id(header: Header, payload: &[u8]) -> MadeCanId
+pub fn make_can_id(header: Header, payload: &[u8]) -> Result<CanId, Refusal>
     ensures { result ≡ can_id_of header payload.now }
 {
     match header {
@@ -34,34 +34,17 @@ pub fn make_pseudo_id(payload: &[u8]) -> CanNodeId
 fn xor_all(payload: &[u8]) -> u8
     ensures { result ≡ xor_all 0x55 payload.now }
 {
-    let mut bits: u8 = 0x55;
-    let mut i: usize = 0;
-    while i < payload.len() {
-        bits ^= payload[i];
-        i += 1;
-    }
-    bits
+    payload.iter().fold(0x55, |bits, byte| bits ^ byte)
 }
 
-fn message_from(header: MessageHeader, payload: &[u8]) -> MadeCanId
+fn message_from(header: MessageHeader, payload: &[u8]) -> Result<CanId, Refusal>
     ensures { result ≡ message_from header.source header.priority.0 header.subject.0 payload.now }
 {
     let priority = header.priority;
     let subject = header.subject;
-    let source = header.source;
-    match source {
-        Source::Node(node) => message_can_id(priority, subject, node, false),
-        Source::Anonymous => message_can_id(priority, subject, make_pseudo_id(payload), true),
-    }
-}
-
-fn service_from(header: ServiceHeader, request: bool) -> MadeCanId
-    ensures { result ≡ service_can_id header request }
-{
-    let source = header.source;
-    match source {
-        Source::Node(node) => service_can_id(header, node, request),
-        Source::Anonymous => MadeCanId::Refused(Refusal::Field),
+    match header.source {
+        Some(node) => message_can_id(priority, subject, node, false),
+        None => message_can_id(priority, subject, make_pseudo_id(payload), true),
     }
 }
 
@@ -70,40 +53,23 @@ fn message_can_id(
     subject: SubjectId,
     source: CanNodeId,
     anonymous: bool,
-) -> MadeCanId
+) -> Result<CanId, Refusal>
     ensures { result ≡ message_made priority.0 subject.0 source.0 anonymous }
 {
-    if !priority.is_valid() {
-        return MadeCanId::Refused(Refusal::Field);
-    }
-    if !subject.is_valid() {
-        return MadeCanId::Refused(Refusal::Field);
-    }
-    if !source.is_valid() {
-        return MadeCanId::Refused(Refusal::Field);
-    }
-    MadeCanId::Made(CanId(message_bits(priority.0, subject.0, source.0, anonymous)))
+    let priority = priority.judged()?;
+    let subject = subject.judged()?;
+    let source = source.judged()?;
+    Ok(CanId(message_bits(priority.0, subject.0, source.0, anonymous)))
 }
 
-fn service_can_id(header: ServiceHeader, source: CanNodeId, request: bool) -> MadeCanId
-    ensures { result ≡ service_made header.priority.0 header.service.0 header.destination.0 source.0 request }
+fn service_from(header: ServiceHeader, request: bool) -> Result<CanId, Refusal>
+    ensures { result ≡ service_can_id header request }
 {
-    let priority = header.priority;
-    let service = header.service;
-    let destination = header.destination;
-    if !priority.is_valid() {
-        return MadeCanId::Refused(Refusal::Field);
-    }
-    if !service.is_valid() {
-        return MadeCanId::Refused(Refusal::Field);
-    }
-    if !destination.is_valid() {
-        return MadeCanId::Refused(Refusal::Field);
-    }
-    if !source.is_valid() {
-        return MadeCanId::Refused(Refusal::Field);
-    }
-    MadeCanId::Made(CanId(service_bits(priority.0, service.0, destination.0, source.0, request)))
+    let priority = header.priority.judged()?;
+    let service = header.service.judged()?;
+    let destination = header.destination.judged()?;
+    let source = header.source.ok_or(Refusal::Field)?.judged()?;
+    Ok(CanId(service_bits(priority.0, service.0, destination.0, source.0, request)))
 }
 
 // Bits 21 and 22 are set in every message that is sent.

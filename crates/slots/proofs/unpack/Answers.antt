@@ -4,4 +4,4 @@ use Rattle.slots.proofs.unpack.Goals as goal
 
 pub returns : goal.returns
 unfolding slot_of
-returns c = simp (c.last_time_in-last_time.ensures, c.session_in-session.ensures)
+returns c = simp (c.last_time_in.ensures, c.session_in.ensures)

@@ -1,4 +1,5 @@
 -- The window is a word and the next; the five bits that are stepped in it are the destination's number.
+use Rattle.std.specs.Prelude.{Ok}
 use Rattle.std.proofs.Common.{rules, ◌≡◌, refl, ap, ◌∙◌, [], ◌∷◌, ℕ, suc, ◌+◌, ◌-◌, ◌*◌, ◌/◌, ◌%◌, ◌^◌, ◌<◌, arith, add-one, Fits, w32, lit<, bit_and, bit_or, get_or, take, drop}
 use Rattle.std.proofs.Math.ListN.{set}
 use Rattle.std.proofs.lemmas.Nat.{and_mask, and_le_r}
@@ -6,7 +7,6 @@ use Rattle.laws.specs.Digits.{value_of}
 use Rattle.laws.proofs.Bits.{join}
 use Rattle.laws.proofs.Digits.{none_digits, cons_digits}
 use Rattle.laws.proofs.Parts.{value_at}
-use Rattle.rules.specs.declared.types.TriedCanTransferId.TheVariants.{Valid}
 use Rattle.tracker.specs.Row.{word_base, Sound}
 use Rattle.tracker.proofs.Row.{stepped}
 use Rattle.tracker.proofs.in_two.Goals as goal
@@ -39,6 +39,6 @@ returns c n node place =
     let down_fits : down < word_base = omega (arith, and_le_r put.result (2 ^ 32 - 1)) in
     let up_fits : up < word_base = search rules in
     let digits = cons_digits word_base (lit< tt) down (up ∷ []) down_fits (cons_digits word_base (lit< tt) up [] up_fits (none_digits word_base (lit< tt))) in
-    ap (λ (j : ℕ). record { tracker = record { ids = set (set t.ids k down) j up }; answer = Valid c.five_at-id.result }) (add-one k)
+    ap (λ (j : ℕ). record { tracker = record { ids = set (set t.ids k down) j up }; answer = Ok c.five_at-id.result }) (add-one k)
     ∙ stepped t sound n k c.args.shift node place (down ∷ up ∷ []) pair next.result (omega arith) (omega arith) window (parts ∙ put.ensures)
     c.five_at-id.result digits c.five_at-id.ensures next.ensures

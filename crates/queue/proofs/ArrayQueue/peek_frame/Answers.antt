@@ -1,5 +1,5 @@
 -- Where a frame is queued the first stands at the head.
-use Rattle.std.proofs.Common.{sym, ◌∙◌}
+use Rattle.std.proofs.Common.{sym, ap, ◌∙◌, Some}
 use Rattle.queue.proofs.Popping.{at_head}
 use Rattle.queue.proofs.State.{with_frames}
 use Rattle.queue.proofs.ArrayQueue.peek_frame.Goals as goal
@@ -7,4 +7,4 @@ use Rattle.queue.proofs.ArrayQueue.peek_frame.Goals as goal
 pub returns : goal.returns
 returns c =
     let s = with_frames c.args.self c.args.places.now (sym c.if-is_empty.ensures) in
-    c.held.ensures ∙ at_head _ _ s.0 s.1
+    ap Some c.held.ensures ∙ at_head _ _ s.0 s.1

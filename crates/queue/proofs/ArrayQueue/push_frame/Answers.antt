@@ -6,5 +6,5 @@ use Rattle.queue.proofs.ArrayQueue.push_frame.Goals as goal
 
 pub grown-queue-requires : goal.grown-queue-requires
 grown-queue-requires c =
-    let r = placed_in c.args.self c.args.places.now (frame c.args.marks c.args.bytes.now) (c.in-Placed.ensures c.args.bytes.now refl) in
+    let r = placed_in c.args.self c.args.places.now (frame c.args.marks c.args.bytes.now) (c.in-Ok.ensures c.args.bytes.now refl) in
     omega arith

@@ -9,22 +9,22 @@ use Rattle.rx.proofs.Saved.{written}
 use Rattle.rx.proofs.Parts.{lent_out, part_short}
 use Rattle.rx.proofs.subscription.accept_from.Goals as goal
 
-pub returns-in-Repeat : goal.returns-in-Repeat
+pub returns-in_default : goal.returns-in_default
 unfolding in_words
-returns-in-Repeat c =
+returns-in_default c =
     let a = c.args in
-    let q = ap (λ s. admitted a.settings.timeout s a.arrival.tail.transfer_id a.arrival.stamp) (sym c.load-slot.ensures) ∙ sym c.admit.ensures ∙ c.in-Repeat.is in
+    let q = ap (λ s. admitted a.settings.timeout s a.arrival.tail.transfer_id a.arrival.stamp) (sym c.load-slot.ensures) ∙ sym c.admit.ensures ∙ c.in_default.is in
     sym (ap (λ r. ruled r a.settings.extent a.slots.now a.store.now a.node.0 a.arrival a.bytes.now) q)
 
-pub returns-in-On : goal.returns-in-On
+pub returns : goal.returns
 unfolding in_words
-returns-in-On c =
+returns c =
     let a = c.args in
     let e = a.settings.extent in
     let n = a.node.0 in
     let t = c.start_of-start in
-    let s = c.in-On.slot in
-    let q = ap (λ s. admitted a.settings.timeout s a.arrival.tail.transfer_id a.arrival.stamp) (sym c.load-slot.ensures) ∙ sym c.admit.ensures ∙ c.in-On.is in
+    let s = c.in-Some.slot in
+    let q = ap (λ s. admitted a.settings.timeout s a.arrival.tail.transfer_id a.arrival.stamp) (sym c.load-slot.ensures) ∙ sym c.admit.ensures ∙ c.in-Some.is in
     let h : e < 2 ^ 16 = omega arith in
     written e n a.slots.now a.store.now c.go_on-step.result _ t.result c.lying_from.result t.ensures.0 c.lying_from.ensures c.save.ensures
     ∙ ap

@@ -2,14 +2,14 @@
 -- shows.
 use Rattle.std.specs.Prelude.{None, Option, Some}
 use Rattle.rules.specs.declared.types.CanNodeId.{CanNodeId}
-use mathlib.Core.Path.{◌≡◌, refl, sym, ap}
-use mathlib.Core.Bool.{Bool, true, false, cond}
+use mathlib.Core.Path.{◌≡◌, refl, ap}
+use mathlib.Core.Bool.{Bool, cond}
 use mathlib.Core.List.{List}
-use Prim.Native.Nat.{ℕ, ◌-◌, ◌<◌, ◌≤◌}
+use Prim.Native.Nat.{ℕ, ◌<◌}
 use native.Mathlib.Omega.{arith}
-use lib.Dec.{leb, eqb}
-use lib.ListN.{length, drop, length-drop, drop_of_length-le}
-use borrow.Author.Tests.{ne_eqb, leb-false}
+use Rattle.std.proofs.lemmas.Grind.{common_steps}
+use lib.Dec.{eqb}
+use lib.ListN.{length, drop}
 use Rattle.rules.specs.CanId.{bit}
 use Rattle.rules.specs.Limits.{nodes}
 use Rattle.rules.specs.Answers.{Answer, delivers, nothing, not_ours, refuses, leading, part_shown, shown}
@@ -19,15 +19,13 @@ use Rattle.rules.specs.declared.header.Header.TheVariants.{Message, Request, Res
 use Rattle.rules.specs.declared.receive.Part.{Part}
 use Rattle.rules.specs.declared.receive.Part.TheVariants.{OfFrame, OfStore}
 use Rattle.rules.specs.Receiver.{source_in}
-use Rattle.rx.proofs.Parts.{leading_none}
 use Rattle.dolomisc.specs.Flat.{yes, marks_from, marks_told, source_from, node_told, header_from, header_told}
 use Rattle.dolomisc.specs.Received.{span_of, span_within, span_for, span_in, received_told, spanned}
 
 -- ---- read back
 
 yes_bit : (b : Bool) → yes (bit b) ≡ b
-yes_bit true = refl
-yes_bit false = refl
+yes_bit b = grind arith
 
 pub marks_back : (m : Marks) → marks_from (marks_told m) ≡ m
 marks_back m = ap (λ (b : Bool). record { stamp = m.stamp; id = m.id; loopback = b }) (yes_bit m.loopback)
@@ -39,9 +37,7 @@ IsSource None = Unit {0}
 
 source_back : (s : Option CanNodeId) → IsSource s → source_from (node_told s) ≡ s
 source_back None h = refl
-source_back (Some n) h =
-    let other : n.0 ≡ 255 → ⊥ = λ e. omega arith in
-    rw (ne_eqb n.0 255 other) refl
+source_back (Some n) h = grind arith
 
 pub header_back : (h : Header) → IsSource (source_in h) → header_from (header_told h) ≡ h
 header_back (Message h) k = rw (source_back h.source k) refl
@@ -57,19 +53,8 @@ module _ (memory start len : ℕ) (frame store : List ℕ) where
   abbrev Shows : Type 0
   Shows = spanned (span_within (record { start = start; length = len; memory = memory }) (length xs)) frame store ≡ leading len (drop start xs)
 
-  fits : (b : Bool) → leb len (length xs - start) ≡ b → leb start (length xs) ≡ true → Shows
-  fits true e k = rw (k, e, length-drop start xs, e) refl
-  fits false e k = rw (k, e, length-drop start xs, e) refl
-
-  starts : (b : Bool) → leb start (length xs) ≡ b → Shows
-  starts true k = fits (leb len (length xs - start)) refl k
-  starts false k =
-      let h = leb-false start (length xs) k in
-      let l : length xs ≤ start = omega arith in
-      rw (k, drop_of_length-le xs l) (sym (leading_none len))
-
   within : Shows
-  within = starts (leb start (length xs)) refl
+  within = grind (arith, common_steps)
 
 part_within : (p : Part) (frame store : List ℕ) → spanned (span_for (span_of p) (length frame) (length store)) frame store ≡ part_shown p frame store
 part_within (OfFrame len) = within 0 0 len

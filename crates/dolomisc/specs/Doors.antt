@@ -23,18 +23,19 @@ use Rattle.dolomisc.specs.declared.sending.FlatTransfer.{FlatTransfer}
 use Rattle.dolomisc.specs.declared.sending.Given.{Given}
 use Rattle.dolomisc.specs.declared.sending.Plan.{Plan}
 use Rattle.dolomisc.specs.Flat.{told, yes, marks_told, header_from}
-use Rattle.dolomisc.specs.States.{queue_in, queue_words, transmitter_in}
+use Rattle.tx.specs.declared.CanTransmitter.{CanTransmitter}
 
 -- ---- the queue
 
-abbrev pub queue_made : Result ArrayQueue Refusal → List ℕ → List ℕ
-queue_made (Ok q) before = queue_words q
+-- the queue that was made, or the one before it
+abbrev pub queue_made : Result ArrayQueue Refusal → ArrayQueue → ArrayQueue
+queue_made (Ok q) before = q
 queue_made (Err r) before = before
 
 -- through a door a frame f was to be put among those queued, by the rule `put`: the answer is told, and what is left is as the queue promises
-pub record PlacedThrough (put : Frame → List Frame → List Frame) (words : List ℕ) (places : List (List ℕ)) (f : Frame) (r : Answer) (words' : List ℕ) (places' : List (List ℕ)) : Type 0 where
-  pub told : r ≡ told (placed (free (queue_in words) places) f)
-  pub left : Places put (queue_in words) places f (record { queue = queue_in words'; answer = placed (free (queue_in words) places) f }) places'
+pub record PlacedThrough (put : Frame → List Frame → List Frame) (q : ArrayQueue) (places : List (List ℕ)) (f : Frame) (r : Answer) (q' : ArrayQueue) (places' : List (List ℕ)) : Type 0 where
+  pub told : r ≡ told (placed (free q places) f)
+  pub left : Places put q places f (record { queue = q'; answer = placed (free q places) f }) places'
 
 -- a frame that was found; of none every field but `what` is zero
 abbrev pub held_told : Option Held → FlatFrame
@@ -43,9 +44,9 @@ held_told None =
     record { length = 0; marks = record { stamp = 0; id = 0; loopback = 0 }; what = 2; bytes = replicate greatest_frame 0 }
 
 -- through a door the first frame was popped: it is told, and what is left is as the queue promises
-pub record PoppedThrough (words : List ℕ) (places : List (List ℕ)) (r : FlatFrame) (words' : List ℕ) : Type 0 where
-  pub told : r ≡ held_told (held_of (first (contents (queue_in words) places)))
-  pub left : Pops (queue_in words) places (record { queue = queue_in words'; held = held_of (first (contents (queue_in words) places)) })
+pub record PoppedThrough (q : ArrayQueue) (places : List (List ℕ)) (r : FlatFrame) (q' : ArrayQueue) : Type 0 where
+  pub told : r ≡ held_told (held_of (first (contents q places)))
+  pub left : Pops q places (record { queue = q'; held = held_of (first (contents q places)) })
 
 -- ---- sending
 
@@ -58,14 +59,13 @@ transfer_from t = record {
 }
 
 -- how a transfer goes out of what the caller keeps, or the first refusal
-abbrev pub verdict_through : List ℕ → List ℕ → List (List ℕ) → FlatTransfer → List ℕ → Result Outgoing Refusal
-verdict_through t q places transfer payload = verdict (transmitter_in t) (queue_in q) places (transfer_from transfer) payload
+abbrev pub verdict_through : CanTransmitter → ArrayQueue → List (List ℕ) → FlatTransfer → List ℕ → Result Outgoing Refusal
+verdict_through t q places transfer payload = verdict t q places (transfer_from transfer) payload
 
 -- through a door a transfer was sent, with this verdict j: the answer is told, and what is left is as a send promises
-pub record SentThrough (j : Result Outgoing Refusal) (t q : List ℕ) (places : List (List ℕ)) (transfer : FlatTransfer) (payload : List ℕ) (r : Answer) (t' q' : List ℕ) (places' : List (List ℕ)) : Type 0 where
+pub record SentThrough (j : Result Outgoing Refusal) (t : CanTransmitter) (q : ArrayQueue) (places : List (List ℕ)) (transfer : FlatTransfer) (payload : List ℕ) (r : Answer) (t' : CanTransmitter) (q' : ArrayQueue) (places' : List (List ℕ)) : Type 0 where
   pub told : r ≡ told (answer j)
-  pub left : Sends j (transmitter_in t) (queue_in q) places (transfer_from transfer) payload
-      (record { transmitter = transmitter_in t'; queue = queue_in q'; answer = answer j }) places'
+  pub left : Sends j t q places (transfer_from transfer) payload (record { transmitter = t'; queue = q'; answer = answer j }) places'
 
 abbrev pub given_told : Result CanTransferId Refusal → Given
 given_told (Ok id) = record { what = 0; refusal = 0; transfer_id = id.0 }

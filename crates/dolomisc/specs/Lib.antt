@@ -1,4 +1,3 @@
 pub mod Flat
-pub mod States
 pub mod Doors
 pub mod Received

@@ -4,7 +4,7 @@ ghost use Rattle.dolomisc.specs.Flat.{told};
 
 use rules::refusal::Refusal;
 
-// What happened. A refusal's number stands beside it, and is 0 where nothing is refused.
+// What happened, by C's numbers. A refusal's number stands beside it, and is 0 where nothing is refused.
 pub const DONE: u8 = 0;
 
 pub const DELIVERED: u8 = 1;

@@ -7,7 +7,7 @@ use rules::header::{Header, MessageHeader, ServiceHeader};
 use rules::subscription::{Port, ServicePort};
 use rules::types::{CanNodeId, Priority, ServiceId, SubjectId};
 
-// The kinds of transfer.
+// The kinds of transfer, by C's numbers.
 pub const MESSAGE: u8 = 0;
 
 pub const REQUEST: u8 = 1;
@@ -21,7 +21,7 @@ pub const NO_NODE: u8 = 255;
 pub const NO_SUBJECT: u16 = 65535;
 
 #[repr(C)]
-#[derive(Clone, Copy)]
+#[derive(Clone, Copy, Default)]
 pub struct FlatHeader {
     pub port: u16,
     pub kind: u8,
@@ -31,7 +31,7 @@ pub struct FlatHeader {
 }
 
 #[repr(C)]
-#[derive(Clone, Copy)]
+#[derive(Clone, Copy, Default)]
 pub struct FlatMarks {
     pub stamp: u32,
     pub id: u32,
@@ -65,10 +65,7 @@ impl From<Marks> for FlatMarks {
 fn source_from(node: u8) -> Option<CanNodeId>
     ensures { result ≡ source_from node }
 {
-    if node == NO_NODE {
-        return None;
-    }
-    Some(CanNodeId(node))
+    (node != NO_NODE).then_some(CanNodeId(node))
 }
 
 impl From<FlatHeader> for Header {
@@ -129,10 +126,7 @@ fn service_at(port: u16, node: u8) -> ServicePort
 fn node_told(source: Option<CanNodeId>) -> u8
     ensures { result ≡ node_told source }
 {
-    match source {
-        None => NO_NODE,
-        Some(node) => node.0,
-    }
+    source.map_or(NO_NODE, |node| node.0)
 }
 
 impl From<Header> for FlatHeader {

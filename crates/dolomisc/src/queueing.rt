@@ -5,13 +5,10 @@ ghost use Rattle.rules.specs.Queue.{pushed, returned, first, room_for};
 ghost use Rattle.queue.specs.Place.{held_of};
 ghost use Rattle.queue.specs.Queue.{made, contents, free, capacity_of};
 ghost use Rattle.dolomisc.specs.Flat.{marks_from, told};
-ghost use Rattle.dolomisc.specs.States.{queue_in};
 ghost use Rattle.dolomisc.specs.Doors.{queue_made, held_told, PlacedThrough, PoppedThrough};
 
-use crate::answers::Answer;
+use crate::answers::{self, Answer};
 use crate::headers::FlatMarks;
-use crate::states::QueueWords;
-use crate::{answers, states};
 use queue::{ArrayQueue, Held, Place};
 use rules::data::FRAME_CAPACITY;
 
@@ -27,106 +24,98 @@ pub struct Frame {
 
 // As ArrayQueue::new. After a refusal the queue is as it was.
 #[unsafe(no_mangle)]
-pub extern "C" fn dolomisc_queue_new(queue: &mut QueueWords, capacity: usize) -> Answer
+pub extern "C" fn dolomisc_queue_new(queue: &mut ArrayQueue, capacity: usize) -> Answer
     ensures value { result ≡ told (made capacity) }
     ensures queue_after { queue.new ≡ queue_made (made capacity) queue.old }
 {
     let made = ArrayQueue::new(capacity);
     if let Ok(fresh) = made {
-        *queue = states::queue_words(fresh);
+        *queue = fresh;
     }
     made.into()
 }
 
 // As ArrayQueue::len.
 #[unsafe(no_mangle)]
-pub extern "C" fn dolomisc_queue_len(queue: &QueueWords, places: &[Place]) -> usize
-    ensures { result ≡ length (contents (queue_in queue.now) places.now) }
+pub extern "C" fn dolomisc_queue_len(queue: &ArrayQueue, places: &[Place]) -> usize
+    ensures { result ≡ length (contents queue.now places.now) }
 {
-    let q = states::queue_in(*queue);
-    q.len(places)
+    queue.len(places)
 }
 
 // As ArrayQueue::is_empty.
 #[unsafe(no_mangle)]
-pub extern "C" fn dolomisc_queue_is_empty(queue: &QueueWords, places: &[Place]) -> bool
-    ensures { result ≡ eqb (length (contents (queue_in queue.now) places.now)) 0 }
+pub extern "C" fn dolomisc_queue_is_empty(queue: &ArrayQueue, places: &[Place]) -> bool
+    ensures { result ≡ eqb (length (contents queue.now places.now)) 0 }
 {
-    let q = states::queue_in(*queue);
-    q.is_empty(places)
+    queue.is_empty(places)
 }
 
 // As ArrayQueue::capacity.
 #[unsafe(no_mangle)]
-pub extern "C" fn dolomisc_queue_capacity(queue: &QueueWords) -> usize
-    ensures { result ≡ capacity_of (queue_in queue.now) }
+pub extern "C" fn dolomisc_queue_capacity(queue: &ArrayQueue) -> usize
+    ensures { result ≡ capacity_of queue.now }
 {
-    let q = states::queue_in(*queue);
-    q.capacity()
+    queue.capacity()
 }
 
 // As ArrayQueue::try_reserve.
 #[unsafe(no_mangle)]
 pub extern "C" fn dolomisc_queue_try_reserve(
-    queue: &QueueWords,
+    queue: &ArrayQueue,
     places: &[Place],
     frames: usize,
 ) -> Answer
-    ensures { result ≡ told (room_for (free (queue_in queue.now) places.now) frames) }
+    ensures { result ≡ told (room_for (free queue.now places.now) frames) }
 {
-    let q = states::queue_in(*queue);
-    q.try_reserve(places, frames).into()
+    queue.try_reserve(places, frames).into()
 }
 
 // As ArrayQueue::push_frame.
 #[unsafe(no_mangle)]
 pub extern "C" fn dolomisc_queue_push_frame(
-    queue: &mut QueueWords,
+    queue: &mut ArrayQueue,
     places: &mut [Place],
     marks: FlatMarks,
     bytes: &[u8],
 ) -> Answer
     ensures { PlacedThrough pushed queue.old places.old (frame (marks_from marks) bytes.now) result queue.new places.new }
 {
-    let q = states::queue_in(*queue);
-    let pushed = q.push_frame(places, marks.into(), bytes);
-    *queue = states::queue_words(pushed.queue);
+    let pushed = queue.push_frame(places, marks.into(), bytes);
+    *queue = pushed.queue;
     pushed.answer.into()
 }
 
 // As ArrayQueue::return_frame.
 #[unsafe(no_mangle)]
 pub extern "C" fn dolomisc_queue_return_frame(
-    queue: &mut QueueWords,
+    queue: &mut ArrayQueue,
     places: &mut [Place],
     marks: FlatMarks,
     bytes: &[u8],
 ) -> Answer
     ensures { PlacedThrough returned queue.old places.old (frame (marks_from marks) bytes.now) result queue.new places.new }
 {
-    let q = states::queue_in(*queue);
-    let returned = q.return_frame(places, marks.into(), bytes);
-    *queue = states::queue_words(returned.queue);
+    let returned = queue.return_frame(places, marks.into(), bytes);
+    *queue = returned.queue;
     returned.answer.into()
 }
 
 // As ArrayQueue::peek_frame.
 #[unsafe(no_mangle)]
-pub extern "C" fn dolomisc_queue_peek_frame(queue: &QueueWords, places: &[Place]) -> Frame
-    ensures { result ≡ held_told (held_of (first (contents (queue_in queue.now) places.now))) }
+pub extern "C" fn dolomisc_queue_peek_frame(queue: &ArrayQueue, places: &[Place]) -> Frame
+    ensures { result ≡ held_told (held_of (first (contents queue.now places.now))) }
 {
-    let q = states::queue_in(*queue);
-    q.peek_frame(places).into()
+    queue.peek_frame(places).into()
 }
 
 // As ArrayQueue::pop_frame.
 #[unsafe(no_mangle)]
-pub extern "C" fn dolomisc_queue_pop_frame(queue: &mut QueueWords, places: &[Place]) -> Frame
+pub extern "C" fn dolomisc_queue_pop_frame(queue: &mut ArrayQueue, places: &[Place]) -> Frame
     ensures { PoppedThrough queue.old places.now result queue.new }
 {
-    let q = states::queue_in(*queue);
-    let popped = q.pop_frame(places);
-    *queue = states::queue_words(popped.queue);
+    let popped = queue.pop_frame(places);
+    *queue = popped.queue;
     popped.held.into()
 }
 
@@ -146,11 +135,7 @@ impl From<Option<Held>> for Frame {
             }
             None => Frame {
                 length: 0,
-                marks: FlatMarks {
-                    stamp: 0,
-                    id: 0,
-                    loopback: 0,
-                },
+                marks: FlatMarks::default(),
                 what: answers::NOTHING,
                 bytes: [0; FRAME_CAPACITY],
             },

@@ -4,7 +4,7 @@ ghost use Rattle.rules.specs.Frames.{frame};
 ghost use Rattle.rules.specs.Receiver.{made};
 ghost use Rattle.rx.specs.Accept.{words_made, accepted};
 ghost use Rattle.dolomisc.specs.Flat.{marks_from, port_from};
-ghost use Rattle.dolomisc.specs.Received.{settings_from, subscribed_told, receives, received_of, delivered_told, span_of, span_in, span_within, empty, not_subscribed, nothing_named};
+ghost use Rattle.dolomisc.specs.Received.{settings_from, subscribed_told, receives, received_of, delivered_told, span_of, span_in, span_within, not_subscribed, nothing_named};
 
 use crate::headers::{FlatHeader, FlatMarks};
 use crate::{answers, headers};
@@ -14,14 +14,14 @@ use rules::subscription::Settings;
 use rx::subscription::Subscription;
 use slots::Slots;
 
-// In which memory the bytes of a delivery lie.
+// In which memory the bytes of a delivery lie, by C's numbers.
 pub const IN_FRAME: u8 = 0;
 
 pub const IN_STORE: u8 = 1;
 
 // What making gives. The caller keeps it and hands it in with each frame.
 #[repr(C)]
-#[derive(Clone, Copy)]
+#[derive(Clone, Copy, Default)]
 pub struct FlatSubscription {
     pub timeout: u32,
     pub port: u16,
@@ -39,9 +39,9 @@ pub struct FlatSubscribed {
     pub refusal: u8,
 }
 
-// Bytes of the frame or of the store: from which on, and how many.
+// Bytes of the frame or of the store: from which on, and how many. By default none.
 #[repr(C)]
-#[derive(Clone, Copy)]
+#[derive(Clone, Copy, Default)]
 pub struct Span {
     pub start: usize,
     pub length: usize,
@@ -50,7 +50,7 @@ pub struct Span {
 
 // What a frame is answered. All fields but `what` and `refusal` are a delivery's, and zero where there is none.
 #[repr(C)]
-#[derive(Clone, Copy)]
+#[derive(Clone, Copy, Default)]
 pub struct FlatReceived {
     pub span: Span,
     pub stamp: u32,
@@ -99,11 +99,8 @@ fn not_subscribed(refusal: Refusal) -> FlatSubscribed
 {
     FlatSubscribed {
         subscription: FlatSubscription {
-            timeout: 0,
-            port: 0,
-            extent: 0,
             kind: 255,
-            node: 0,
+            ..FlatSubscription::default()
         },
         what: answers::REFUSED,
         refusal: refusal.number(),
@@ -121,15 +118,11 @@ pub extern "C" fn dolomisc_subscription_accept(
 ) -> FlatReceived
     ensures { receives result slots.new store.new ≡ received_of (accepted (settings_from subscription) slots.old store.old (frame (marks_from marks) bytes.now)) }
 {
-    let port = headers::port_from(subscription.kind, subscription.port, subscription.node);
     let receiver = Subscription {
-        settings: Settings {
-            port,
-            timeout: subscription.timeout,
-            extent: subscription.extent,
-        },
+        settings: subscription.into(),
     };
-    // Each arm returns by itself: for one answer that is joined from all, the compiler holds a dozen zeros ready on every way.
+    // Each arm returns by itself: for one answer that is joined from all, here or in a `From`, the compiler holds a dozen zeros ready on every way, and takes 225
+    // instructions for a frame of 8 bytes, where it takes 194 so.
     match receiver.accept(slots, store, marks.into(), bytes) {
         Ok(Received::Delivered(delivery)) => {
             return delivery.into();
@@ -142,6 +135,18 @@ pub extern "C" fn dolomisc_subscription_accept(
         }
         Err(refusal) => {
             return nothing_named(answers::REFUSED, refusal.number());
+        }
+    }
+}
+
+impl From<FlatSubscription> for Settings {
+    ghost from_gives = { λ flat settings. settings ≡ settings_from flat };
+
+    fn from(flat: FlatSubscription) -> Settings {
+        Settings {
+            port: headers::port_from(flat.kind, flat.port, flat.node),
+            timeout: flat.timeout,
+            extent: flat.extent,
         }
     }
 }
@@ -181,34 +186,14 @@ impl From<Part> for Span {
     }
 }
 
-fn empty() -> Span
-    ensures { result ≡ empty }
-{
-    Span {
-        start: 0,
-        length: 0,
-        memory: IN_FRAME,
-    }
-}
-
 // An answer that names no bytes.
 fn nothing_named(what: u8, refusal: u8) -> FlatReceived
     ensures { result ≡ nothing_named what refusal }
 {
     FlatReceived {
-        span: empty(),
-        stamp: 0,
-        header: FlatHeader {
-            port: 0,
-            kind: 0,
-            priority: 0,
-            source: 0,
-            destination: 0,
-        },
-        transfer_id: 0,
-        loopback: 0,
         what,
         refusal,
+        ..FlatReceived::default()
     }
 }
 
@@ -218,7 +203,7 @@ pub extern "C" fn dolomisc_payload(received: FlatReceived, frame: &[u8], store: 
     ensures { result ≡ span_in received (length frame.now) (length store.now) }
 {
     if received.what != answers::DELIVERED {
-        return empty();
+        return Span::default();
     }
     let span = received.span;
     if span.memory == IN_FRAME {
@@ -231,11 +216,11 @@ fn span_within(span: Span, room: usize) -> Span
     ensures { result ≡ span_within span room }
 {
     if room < span.start {
-        return empty();
+        return Span::default();
     }
     let behind = room - span.start;
     if behind < span.length {
-        return empty();
+        return Span::default();
     }
     span
 }

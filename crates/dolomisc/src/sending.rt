@@ -1,17 +1,13 @@
 // The doors of the transmitter, of the tracker and of the frame plan.
 ghost use Rattle.std.specs.Prelude.{◌≡◌, ◌-◌};
 ghost use Rattle.rules.specs.Limits.{tried_mtu};
-ghost use Rattle.rules.specs.Refusals.{number_of};
 ghost use Rattle.rules.specs.Tracker.{fresh_numbers};
 ghost use Rattle.tracker.specs.Row.{row_of, asked};
-ghost use Rattle.dolomisc.specs.States.{transmitter_in, transmitter_words};
-ghost use Rattle.dolomisc.specs.Doors.{transfer_from, verdict_through, SentThrough, given_told, plan_told, plan_refused, planned_for};
+ghost use Rattle.dolomisc.specs.Doors.{transfer_from, verdict_through, SentThrough, given_told, plan_told, planned_for};
 
-use crate::answers::Answer;
+use crate::answers::{self, Answer};
 use crate::headers::FlatHeader;
-use crate::states::{QueueWords, TransmitterWords};
-use crate::{answers, states};
-use queue::Place;
+use queue::{ArrayQueue, Place};
 use rules::data::Mtu;
 use rules::refusal::Refusal;
 use rules::send::Transfer;
@@ -31,7 +27,7 @@ pub struct FlatTransfer {
 
 // A transfer ID, or why there is none.
 #[repr(C)]
-#[derive(Clone, Copy)]
+#[derive(Clone, Copy, Default)]
 pub struct Given {
     pub what: u8,
     pub refusal: u8,
@@ -40,7 +36,7 @@ pub struct Given {
 
 // The plan of a payload, or why there is none.
 #[repr(C)]
-#[derive(Clone, Copy)]
+#[derive(Clone, Copy, Default)]
 pub struct Plan {
     pub frames: usize,
     pub padding: usize,
@@ -50,66 +46,58 @@ pub struct Plan {
 
 // As CanTransmitter::new.
 #[unsafe(no_mangle)]
-pub extern "C" fn dolomisc_transmitter_new(transmitter: &mut TransmitterWords, mtu: usize)
-    ensures { transmitter.new ≡ transmitter_words (record { mtu = mtu; transfer_count = 0; error_count = 0 }) }
+pub extern "C" fn dolomisc_transmitter_new(transmitter: &mut CanTransmitter, mtu: usize)
+    ensures { transmitter.new ≡ record { mtu = mtu; transfer_count = 0; error_count = 0 } }
 {
-    let fresh = CanTransmitter::new(mtu);
-    *transmitter = states::transmitter_words(fresh);
+    *transmitter = CanTransmitter::new(mtu);
 }
 
 // As CanTransmitter::set_mtu.
 #[unsafe(no_mangle)]
-pub extern "C" fn dolomisc_transmitter_set_mtu(transmitter: &mut TransmitterWords, mtu: usize)
-    ensures { transmitter.new ≡ transmitter_words (record { mtu = mtu; transfer_count = (transmitter_in transmitter.old).transfer_count; error_count = (transmitter_in transmitter.old).error_count }) }
+pub extern "C" fn dolomisc_transmitter_set_mtu(transmitter: &mut CanTransmitter, mtu: usize)
+    ensures { transmitter.new ≡ record { mtu = mtu; transfer_count = transmitter.old.transfer_count; error_count = transmitter.old.error_count } }
 {
-    let t = states::transmitter_in(*transmitter);
-    let changed = t.set_mtu(mtu);
-    *transmitter = states::transmitter_words(changed);
+    *transmitter = transmitter.set_mtu(mtu);
 }
 
 // As CanTransmitter::mtu.
 #[unsafe(no_mangle)]
-pub extern "C" fn dolomisc_transmitter_mtu(transmitter: &TransmitterWords) -> usize
-    ensures { result ≡ (transmitter_in transmitter.now).mtu - 1 }
+pub extern "C" fn dolomisc_transmitter_mtu(transmitter: &CanTransmitter) -> usize
+    ensures { result ≡ transmitter.now.mtu - 1 }
 {
-    let t = states::transmitter_in(*transmitter);
-    t.mtu()
+    transmitter.mtu()
 }
 
 // As CanTransmitter::transfer_count.
 #[unsafe(no_mangle)]
-pub extern "C" fn dolomisc_transmitter_transfer_count(transmitter: &TransmitterWords) -> u64
-    ensures { result ≡ (transmitter_in transmitter.now).transfer_count }
+pub extern "C" fn dolomisc_transmitter_transfer_count(transmitter: &CanTransmitter) -> u64
+    ensures { result ≡ transmitter.now.transfer_count }
 {
-    let t = states::transmitter_in(*transmitter);
-    t.transfer_count()
+    transmitter.transfer_count()
 }
 
 // As CanTransmitter::error_count.
 #[unsafe(no_mangle)]
-pub extern "C" fn dolomisc_transmitter_error_count(transmitter: &TransmitterWords) -> u64
-    ensures { result ≡ (transmitter_in transmitter.now).error_count }
+pub extern "C" fn dolomisc_transmitter_error_count(transmitter: &CanTransmitter) -> u64
+    ensures { result ≡ transmitter.now.error_count }
 {
-    let t = states::transmitter_in(*transmitter);
-    t.error_count()
+    transmitter.error_count()
 }
 
 // As CanTransmitter::push.
 #[unsafe(no_mangle)]
 pub extern "C" fn dolomisc_transmitter_push(
-    transmitter: &mut TransmitterWords,
-    queue: &mut QueueWords,
+    transmitter: &mut CanTransmitter,
+    queue: &mut ArrayQueue,
     places: &mut [Place],
     transfer: FlatTransfer,
     payload: &[u8],
 ) -> Answer
     ensures { SentThrough (verdict_through transmitter.old queue.old places.old transfer payload.now) transmitter.old queue.old places.old transfer payload.now result transmitter.new queue.new places.new }
 {
-    let t = states::transmitter_in(*transmitter);
-    let q = states::queue_in(*queue);
-    let sent = t.push(q, places, transfer.into(), payload);
-    *transmitter = states::transmitter_words(sent.transmitter);
-    *queue = states::queue_words(sent.queue);
+    let sent = transmitter.push(*queue, places, transfer.into(), payload);
+    *transmitter = sent.transmitter;
+    *queue = sent.queue;
     sent.answer.into()
 }
 
@@ -128,27 +116,23 @@ impl From<FlatTransfer> for Transfer {
 
 // As CanTransferIdTracker::new.
 #[unsafe(no_mangle)]
-pub extern "C" fn dolomisc_tracker_new(tracker: &mut [u32; 20])
-    ensures { tracker.new ≡ (row_of fresh_numbers).ids }
+pub extern "C" fn dolomisc_tracker_new(tracker: &mut CanTransferIdTracker)
+    ensures { tracker.new ≡ row_of fresh_numbers }
 {
-    let ids = CanTransferIdTracker::new().ids;
-    *tracker = ids;
+    *tracker = CanTransferIdTracker::new();
 }
 
 // As CanTransferIdTracker::next_transfer_id.
 #[unsafe(no_mangle)]
 pub extern "C" fn dolomisc_tracker_next_transfer_id(
-    tracker: &mut [u32; 20],
+    tracker: &mut CanTransferIdTracker,
     destination: u8,
 ) -> Given
-    ensures value { result ≡ given_told (asked (record { ids = tracker.old }) destination).answer }
-    ensures tracker_after { tracker.new ≡ (asked (record { ids = tracker.old }) destination).tracker.ids }
+    ensures value { result ≡ given_told (asked tracker.old destination).answer }
+    ensures tracker_after { tracker.new ≡ (asked tracker.old destination).tracker }
 {
-    let ids = *tracker;
-    let t = CanTransferIdTracker { ids };
-    let asked = t.next_transfer_id(CanNodeId(destination));
-    let left = asked.tracker.ids;
-    *tracker = left;
+    let asked = tracker.next_transfer_id(CanNodeId(destination));
+    *tracker = asked.tracker;
     asked.answer.into()
 }
 
@@ -165,7 +149,7 @@ impl From<Result<CanTransferId, Refusal>> for Given {
             Err(refusal) => Given {
                 what: answers::REFUSED,
                 refusal: refusal.number(),
-                transfer_id: 0,
+                ..Given::default()
             },
         }
     }
@@ -176,10 +160,9 @@ impl From<Result<CanTransferId, Refusal>> for Given {
 pub extern "C" fn dolomisc_frame_stats(payload_length: usize, mtu: usize) -> Plan
     ensures { result ≡ planned_for payload_length (tried_mtu mtu) }
 {
-    match Mtu::try_from(mtu) {
-        Ok(size) => wire::calculate_frame_stats(payload_length, size).into(),
-        Err(refusal) => plan_refused(refusal),
-    }
+    Mtu::try_from(mtu)
+        .and_then(|size| wire::calculate_frame_stats(payload_length, size))
+        .into()
 }
 
 impl From<Result<FrameStats, Refusal>> for Plan {
@@ -193,18 +176,11 @@ impl From<Result<FrameStats, Refusal>> for Plan {
                 what: answers::DONE,
                 refusal: 0,
             },
-            Err(refusal) => plan_refused(refusal),
+            Err(refusal) => Plan {
+                what: answers::REFUSED,
+                refusal: refusal.number(),
+                ..Plan::default()
+            },
         }
-    }
-}
-
-fn plan_refused(refusal: Refusal) -> Plan
-    ensures { result ≡ plan_refused (number_of refusal) }
-{
-    Plan {
-        frames: 0,
-        padding: 0,
-        what: answers::REFUSED,
-        refusal: refusal.number(),
     }
 }

@@ -27,6 +27,7 @@ pub const PLACE: usize = 76;
 pub type Place = [u8; PLACE];
 
 // The head of the queue is at index `head` of the lent places. Other frames are at increasing indices, which wrap around at `capacity`.
+#[repr(C)]
 #[derive(Clone, Copy)]
 pub struct ArrayQueue {
     pub head: usize,
@@ -59,6 +60,7 @@ pub struct Popped {
 
 impl ArrayQueue {
     // An empty queue for so many frames. Refuses a capacity over its limit by 14.
+    #[tactic(auto, using(crate::specs::Queue::fresh_is))]
     pub fn new(capacity: usize) -> Result<ArrayQueue, Refusal>
         ensures { result ≡ made capacity }
     {
@@ -73,6 +75,7 @@ impl ArrayQueue {
     }
 
     // The number of frames in the queue.
+    #[tactic(auto, using(crate::proofs::State::contents_length, crate::proofs::State::contents_none))]
     pub fn len(self, places: &[Place]) -> usize
         ensures { result ≡ length (contents self places.now) }
     {
@@ -90,6 +93,7 @@ impl ArrayQueue {
     }
 
     // The greatest number of frames that the queue can hold.
+    #[tactic(auto, using(crate::specs::Queue::capacity_is))]
     pub fn capacity(self) -> usize
         ensures { result ≡ capacity_of self }
     {
@@ -111,52 +115,28 @@ impl ArrayQueue {
     pub fn push_frame(self, places: &mut [Place], marks: Marks, bytes: &[u8]) -> Pushed
         ensures { Places pushed self places.old (frame marks bytes.now) result places.new }
     {
-        let count = bytes.len();
-        match self.judge(places, marks, count) {
-            Err(refusal) => Pushed {
-                queue: self,
-                answer: Err(refusal),
-            },
-            Ok(()) => {
-                let id = marks.id;
-                let p = self.open_behind(places, id);
-                place::fill(&mut places[p], marks, bytes);
-                let head = self.head;
-                let queue = self.grown(head);
-                Pushed {
-                    queue,
-                    answer: Ok(()),
-                }
-            }
+        if let Err(refusal) = self.judge(places, marks, bytes.len()) {
+            return self.refused(refusal);
         }
+        let p = self.open_behind(places, marks.id);
+        place::fill(&mut places[p], marks, bytes);
+        self.placed(self.head)
     }
 
     // As push_frame, for a frame in two pieces: a part of a transfer, and the tail byte behind it.
     pub fn push_tailed(self, places: &mut [Place], marks: Marks, part: &[u8], tail: u8) -> Pushed
         ensures { Places pushed self places.old (frame marks (tailed part.now tail)) result places.new }
     {
-        let count = part.len() + 1;
-        match self.judge(places, marks, count) {
-            Err(refusal) => Pushed {
-                queue: self,
-                answer: Err(refusal),
-            },
-            Ok(()) => {
-                let id = marks.id;
-                let p = self.open_behind(places, id);
-                place::fill_tailed(&mut places[p], marks, part, tail);
-                let head = self.head;
-                let queue = self.grown(head);
-                Pushed {
-                    queue,
-                    answer: Ok(()),
-                }
-            }
+        if let Err(refusal) = self.judge(places, marks, part.len() + 1) {
+            return self.refused(refusal);
         }
+        let p = self.open_behind(places, marks.id);
+        place::fill_tailed(&mut places[p], marks, part, tail);
+        self.placed(self.head)
     }
 
     // The frame that leaves next; none of an empty queue.
-    #[tactic(auto, using(crate::proofs::State::with_frames))]
+    #[tactic(auto, using(crate::proofs::State::with_frames, crate::proofs::Popping::at_head))]
     pub fn peek_frame(self, places: &[Place]) -> Option<Held>
         ensures { result ≡ held_of (first (contents self places.now)) }
     {
@@ -184,7 +164,7 @@ impl ArrayQueue {
             queue: ArrayQueue {
                 head: next,
                 length: left,
-                capacity: cap,
+                ..self
             },
             held,
         }
@@ -194,27 +174,17 @@ impl ArrayQueue {
     pub fn return_frame(self, places: &mut [Place], marks: Marks, bytes: &[u8]) -> Pushed
         ensures { Places returned self places.old (frame marks bytes.now) result places.new }
     {
-        let count = bytes.len();
-        match self.judge(places, marks, count) {
-            Err(refusal) => Pushed {
-                queue: self,
-                answer: Err(refusal),
-            },
-            Ok(()) => {
-                let id = marks.id;
-                let head = self.head;
-                let cap = self.capacity;
-                let ring = Ring { head, cap };
-                let front = ring.before(head);
-                let p = self.open_before(places, front, id);
-                place::fill(&mut places[p], marks, bytes);
-                let queue = self.grown(front);
-                Pushed {
-                    queue,
-                    answer: Ok(()),
-                }
-            }
+        if let Err(refusal) = self.judge(places, marks, bytes.len()) {
+            return self.refused(refusal);
         }
+        let ring = Ring {
+            head: self.head,
+            cap: self.capacity,
+        };
+        let front = ring.before(self.head);
+        let p = self.open_before(places, front, marks.id);
+        place::fill(&mut places[p], marks, bytes);
+        self.placed(front)
     }
 
     // Whether the state is one that calls here leave, and comes with its places.
@@ -237,6 +207,7 @@ impl ArrayQueue {
     }
 
     // The number of free places.
+    #[tactic(auto, using(crate::proofs::State::free_of, crate::proofs::State::free_none))]
     fn free(self, places: &[Place]) -> usize
         ensures { result ≡ free self places.now }
     {
@@ -282,16 +253,29 @@ impl ArrayQueue {
         ring.slot(j)
     }
 
-    // The state with one more frame, in a ring that starts at head.
-    fn grown(self, head: usize) -> Self
+    // One more frame, in a ring that starts at head.
+    fn placed(self, head: usize) -> Pushed
         requires { self.length < greatest_capacity }
-        ensures { result ≡ grown self head }
+        ensures { result ≡ record { queue = grown self head; answer = Ok tt } }
     {
-        let more = self.length + 1;
-        ArrayQueue {
+        let queue = ArrayQueue {
             head,
-            length: more,
-            capacity: self.capacity,
+            length: self.length + 1,
+            ..self
+        };
+        Pushed {
+            queue,
+            answer: Ok(()),
+        }
+    }
+
+    // No frame was placed.
+    fn refused(self, refusal: Refusal) -> Pushed
+        ensures { result ≡ record { queue = self; answer = Err refusal } }
+    {
+        Pushed {
+            queue: self,
+            answer: Err(refusal),
         }
     }
 }

@@ -1,5 +1,5 @@
-// The book: the types that its chapters in specs/ speak of. Its only code is what must stand with a type, the making, stepping and numbering of
-// these values. No public function has a `requires`.
+// The book: the types that its chapters in specs/ speak of. Its only code is what must stand with a type: how a value is made, judged, stepped, numbered and
+// printed. No public function has a `requires`.
 #![tactic(auto)]
 
 pub mod data;

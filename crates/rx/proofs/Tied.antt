@@ -3,8 +3,10 @@
 use Rattle.std.specs.Prelude.{Err, None, Ok, Option, Result, Some}
 use Rattle.rules.specs.declared.refusal.Refusal.{Refusal}
 use Rattle.rx.specs.declared.subscription.Subscription.{Subscription}
-use Rattle.std.proofs.Common.{◌≡◌, ℕ, zero, suc, ◌%◌, ◌^◌, ◌<◌, ◌&&◌, eqb, ◌≢◌, List, [], ◌∷◌, map, length, get_or, set, replicate, sym, refl, ap, ◌∙◌, subst, arith, lit<, length-set, get_or-set_other}
+use Rattle.std.proofs.Common.{◌≡◌, ℕ, ◌%◌, ◌^◌, ◌<◌, ◌&&◌, eqb, ◌≢◌, List, [], map, length, get_or, set, replicate, sym, refl, ap, ◌∙◌, subst, arith, lit<, length-set, get_or-set_other}
 use lib.Seq.{set-get_or}
+use Rattle.std.proofs.Math.ListN.{get_or-map}
+use Rattle.std.proofs.lemmas.List.{map-set}
 use Rattle.laws.proofs.Choose.{either_way}
 use Rattle.rules.specs.declared.subscription.Settings.{Settings}
 use Rattle.rules.specs.declared.types.CanTransferId.{CanTransferId}
@@ -77,25 +79,10 @@ admitted_fits timeout slot id stamp h k =
 
 -- ---- the words step as the book's slots
 
-module _ {A B : Type 0} (g : A → B) where
-  get_map : (l : List A) (n : ℕ) (d : A) → get_or (map g l) n (g d) ≡ g (get_or l n d)
-  get_map [] n d = refl
-  get_map (x ∷ l) zero d = refl
-  get_map (x ∷ l) (suc n) d = get_map l n d
-
-  set_map : (l : List A) (n : ℕ) (x : A) → map g (set l n x) ≡ set (map g l) n (g x)
-  set_map [] n x = refl
-  set_map (y ∷ l) zero x = refl
-  set_map (y ∷ l) (suc n) x = ap (λ (r : List B). g y ∷ r) (set_map l n x)
-
-  replicate_map : (n : ℕ) (x : A) → map g (replicate n x) ≡ replicate n (g x)
-  replicate_map zero x = refl
-  replicate_map (suc n) x = ap (λ (r : List B). g x ∷ r) (replicate_map n x)
-
 module _ (words : List (List ℕ)) (store : List ℕ) where
   -- the slot of source n is the one that its words are read as
   pub slot_viewed : (n : ℕ) → get_or (map slot_of words) n fresh_slot ≡ slot_of (get_or words n [])
-  slot_viewed n = ap (get_or (map slot_of words) n) (sym fresh_words.1) ∙ get_map slot_of words n []
+  slot_viewed n = ap (get_or (map slot_of words) n) (sym fresh_words.1) ∙ get_or-map slot_of words n []
 
   ruled_tied : (r : Option Slot) → AdmittedFits r → (e n : ℕ) (a : Arrival) (bytes : List ℕ)
       → viewed_after (ruled r e words store n a bytes) ≡ at_source e (viewed words store) n (by_id_rule r (cell_at e (viewed words store) n) a bytes)
@@ -103,7 +90,7 @@ module _ (words : List (List ℕ)) (store : List ℕ) where
   ruled_tied None h e n a bytes = rw (set-get_or (map slot_of words) n fresh_slot, put_own e n store) refl
   ruled_tied (Some slot) h e n a bytes =
       let t : Turn = goes_on slot (part_of e n store) a bytes in
-      rw (set_map slot_of words n (words_of t.cell.slot), words_read t.cell.slot (fits_kept slot (part_of e n store) a bytes h)) refl
+      rw (map-set slot_of words n (words_of t.cell.slot), words_read t.cell.slot (fits_kept slot (part_of e n store) a bytes h)) refl
 
   in_words_tied : (s : Settings) (n : ℕ) (a : Arrival) (bytes : List ℕ) → a.tail.transfer_id.0 < transfer_ids
       → viewed_after (in_words s words store n a bytes)
@@ -157,7 +144,7 @@ module _ (s : Settings) (words : List (List ℕ)) (store : List ℕ) (f : Frame)
 
 -- making writes 128 fresh slots
 pub made_fresh : (s : Settings) (words : List (List ℕ)) (store : List ℕ) → (viewed (words_made (Ok s) words) store).slots ≡ fresh_slots
-made_fresh s words store = replicate_map slot_of nodes (words_of fresh_slot) ∙ ap (replicate nodes) fresh_words.0
+made_fresh s words store = ap (replicate nodes) fresh_words.0
 
 -- ---- the promise
 

@@ -28,11 +28,7 @@ fn part_shown<'a>(part: Part, frame: &'a [u8], store: &'a [u8]) -> &'a [u8]
     match part {
         Part::OfFrame { len } => leading_part(frame, len),
         Part::OfStore { start, len } => {
-            if store.len() < start {
-                return &store[..0];
-            }
-            let end = store.len();
-            leading_part(&store[start..end], len)
+            leading_part(store.get(start..).unwrap_or(&store[..0]), len)
         }
     }
 }
@@ -41,8 +37,5 @@ fn part_shown<'a>(part: Part, frame: &'a [u8], store: &'a [u8]) -> &'a [u8]
 fn leading_part<'a>(bytes: &'a [u8], len: usize) -> &'a [u8]
     ensures { result.now ≡ leading len bytes.now }
 {
-    if bytes.len() < len {
-        return &bytes[..0];
-    }
-    &bytes[..len]
+    bytes.get(..len).unwrap_or(&bytes[..0])
 }

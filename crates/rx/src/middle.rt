@@ -1,64 +1,86 @@
 // The short way of the commonest frame: one in the middle of a transfer, which its source's session awaits and which fits the part whole. It is told and taken with no
 // header, arrival or slot made of it. What it leaves is what the long way would.
-ghost use Rattle.std.specs.Prelude.{◌≡◌, ◌+◌, ◌*◌, ◌<◌, ◌≤◌, false, length, if◌then◌else◌, nat_le};
+ghost use Rattle.std.specs.Prelude.{◌≡◌, ◌+◌, ◌<◌, false, length, if◌then◌else◌, nat_le};
 ghost use Rattle.rules.specs.declared.receive.Arrival.{Arrival};
 ghost use Rattle.rules.specs.Limits.{nodes, greatest_frame};
-ghost use Rattle.rules.specs.Frames.{frame};
 ghost use Rattle.rules.specs.CanId.{parsed_can_id};
 ghost use Rattle.rules.specs.Session.{stored};
 ghost use Rattle.rules.specs.Answers.{nothing};
 ghost use Rattle.wire.specs.Addressed.{comes_to};
-ghost use Rattle.rx.specs.Accept.{closes, in_words, accepted};
 
 use crate::subscription;
+use crate::subscription::{Heard, Lent};
 use rules::data::FRAME_CAPACITY;
-use rules::frame::Marks;
-use rules::subscription::{Port, Settings};
+use rules::subscription::Port;
 use rules::tail::TailByte;
 use rules::types::CanNodeId;
-use slots::{Progress, Slots};
+use slots::Progress;
 
-// Takes the frame and answers nothing, as the long way does, or leaves all as it is and says so.
-pub(crate) fn joined(
-    settings: Settings,
-    slots: &mut Slots,
-    store: &mut [u8],
-    marks: Marks,
-    bytes: &[u8],
-) -> bool
-    requires { nodes * settings.extent ≤ length store.old }
-    ensures { closes nothing slots.new store.new ≡ (if result then accepted settings slots.old store.old (frame marks bytes.now) else closes nothing slots.old store.old) }
-{
-    let len = bytes.len();
-    if len == 0 {
-        return false;
+impl Lent<'_> {
+    ghost use Rattle.rx.specs.Lent.{frame_of, Stays, closing, due, due_from};
+
+    // Takes the frame and answers nothing, as the long way does, or leaves all as it is and says so.
+    pub(crate) fn joined(&mut self, heard: Heard<'_>) -> bool
+        ensures stays { Stays self.old self.new }
+        ensures left { closing nothing self.new ≡ (if result then due self.old (frame_of heard.entry) else closing nothing self.old) }
+    {
+        let Heard { marks, bytes } = heard;
+        let len = bytes.len();
+        if len == 0 {
+            return false;
+        }
+        if FRAME_CAPACITY < len {
+            return false;
+        }
+        let before = len - 1;
+        let last = bytes[before];
+        let tail = wire::rx::parse_tail_byte(last);
+        if tail.start {
+            return false;
+        }
+        if tail.end {
+            return false;
+        }
+        let port = self.settings.port;
+        if !comes_to(port, marks.id) {
+            return false;
+        }
+        let node = CanNodeId::from_truncating((marks.id % 256) as u8);
+        self.lay(node, tail, marks.loopback, &bytes[..before])
     }
-    if FRAME_CAPACITY < len {
-        return false;
+
+    // A frame of this source, with this tail byte and loopback flag, whatever else its arrival says.
+    fn lay(&mut self, node: CanNodeId, tail: TailByte, loopback: bool, bytes: &[u8]) -> bool
+        requires { (node.0 < nodes) × (tail.start ≡ false) × (tail.end ≡ false) × (length bytes.now < greatest_frame) }
+        ensures stays { Stays self.old self.new }
+        ensures left { (a : Arrival) → a.tail ≡ tail → a.loopback ≡ loopback → closing nothing self.new ≡ (if result then due_from self.old node.0 a bytes.now else closing nothing self.old) }
+    {
+        // Each loan by itself, as in the long way: a part of the store is lent on while the slots are in use.
+        let slots = &mut *self.slots;
+        let store = &mut *self.store;
+        if !slots::awaits(slots, node, tail, loopback) {
+            return false;
+        }
+        let extent = self.settings.extent as usize;
+        let start = subscription::start_of(node, self.settings.extent);
+        let end = start + extent;
+        let so_far = slots::so_far(slots, node);
+        let total = so_far.total;
+        if !into(&mut store[start..end], total as usize, bytes) {
+            return false;
+        }
+        let crc = crc::digest_seven(so_far.crc, bytes);
+        let further = total + bytes.len() as u32;
+        slots::advance(
+            slots,
+            node,
+            Progress {
+                crc,
+                total: further,
+            },
+        );
+        true
     }
-    let before = len - 1;
-    let last = bytes[before];
-    let tail = wire::rx::parse_tail_byte(last);
-    if tail.start {
-        return false;
-    }
-    if tail.end {
-        return false;
-    }
-    let port = settings.port;
-    if !comes_to(port, marks.id) {
-        return false;
-    }
-    let node = CanNodeId::from_truncating((marks.id % 256) as u8);
-    lay(
-        settings,
-        node,
-        slots,
-        store,
-        tail,
-        marks.loopback,
-        &bytes[..before],
-    )
 }
 
 // Whether a CAN ID speaks to this port, from a source that is named.
@@ -67,54 +89,9 @@ fn comes_to(port: Port, id: u32) -> bool
 {
     match port {
         Port::Message(subject) => wire::rx::is_message_to(id, subject),
-        Port::Request(asked) => {
-            let service = asked.service;
-            let node = asked.node;
-            wire::rx::is_service_to(id, true, service, node)
-        }
-        Port::Response(asked) => {
-            let service = asked.service;
-            let node = asked.node;
-            wire::rx::is_service_to(id, false, service, node)
-        }
+        Port::Request(asked) => wire::rx::is_service_to(id, true, asked.service, asked.node),
+        Port::Response(asked) => wire::rx::is_service_to(id, false, asked.service, asked.node),
     }
-}
-
-// A frame of this source, with this tail byte and loopback flag, whatever else its arrival says.
-fn lay(
-    settings: Settings,
-    node: CanNodeId,
-    slots: &mut Slots,
-    store: &mut [u8],
-    tail: TailByte,
-    loopback: bool,
-    bytes: &[u8],
-) -> bool
-    requires { (node.0 < nodes) × (nodes * settings.extent ≤ length store.old) × (tail.start ≡ false) × (tail.end ≡ false) × (length bytes.now < greatest_frame) }
-    ensures { (a : Arrival) → a.tail ≡ tail → a.loopback ≡ loopback → closes nothing slots.new store.new ≡ (if result then in_words settings slots.old store.old node.0 a bytes.now else closes nothing slots.old store.old) }
-{
-    if !slots::awaits(slots, node, tail, loopback) {
-        return false;
-    }
-    let extent = settings.extent as usize;
-    let start = subscription::start_of(node, settings.extent);
-    let end = start + extent;
-    let so_far = slots::so_far(slots, node);
-    let total = so_far.total;
-    if !into(&mut store[start..end], total as usize, bytes) {
-        return false;
-    }
-    let crc = crc::digest_seven(so_far.crc, bytes);
-    let further = total + bytes.len() as u32;
-    slots::advance(
-        slots,
-        node,
-        Progress {
-            crc,
-            total: further,
-        },
-    );
-    true
 }
 
 // Lays the bytes behind the total that the part has; none where the part does not take them all. Says whether it did.

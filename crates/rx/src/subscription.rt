@@ -5,9 +5,8 @@ ghost use Rattle.rules.specs.Frames.{frame};
 ghost use Rattle.rules.specs.Slot.{timed_out, admitted};
 ghost use Rattle.rules.specs.Answers.{answer_of, answer_from, part_from};
 ghost use Rattle.rules.specs.Receiver.{made, port_valid, service_valid, same_service, wants, reading, before_tail, source_in, by_source};
-ghost use Rattle.rx.specs.Accept.{settings_made, words_made, Known, closes, in_words, accepted};
+ghost use Rattle.rx.specs.Accept.{settings_made, words_made, Known, closes, accepted};
 
-use crate::middle;
 use rules::data::{EXTENT_MAX, FRAME_CAPACITY};
 use rules::frame::Marks;
 use rules::header::{Header, ServiceHeader};
@@ -68,10 +67,130 @@ impl Subscription {
         if store.len() < 128 * (settings.extent as usize) {
             return Err(Refusal::StoreTooSmall);
         }
-        if middle::joined(settings, slots, store, marks, bytes) {
+        let heard = Heard { marks, bytes };
+        let mut lent = Lent {
+            settings,
+            slots,
+            store,
+        };
+        if lent.joined(heard) {
             return Ok(Received::Nothing);
         }
-        judge(settings, slots, store, marks, bytes)
+        lent.judge(heard)
+    }
+}
+
+// A received frame, as it came.
+#[derive(Clone, Copy)]
+pub(crate) struct Heard<'a> {
+    pub(crate) marks: Marks,
+    pub(crate) bytes: &'a [u8],
+}
+
+impl<'a> Heard<'a> {
+    ghost use Rattle.rx.specs.Lent.{frame_of};
+
+    // What the frame is to the subscription, whatever its slots.
+    #[tactic(auto, unfolding(rules::specs::Receiver::reading))]
+    fn read(self, port: Port) -> Result<Option<Arrival>, Refusal>
+        ensures { result ≡ reading port (frame_of self.entry) }
+    {
+        let Heard { marks, bytes } = self;
+        let Some(&last) = bytes.last() else {
+            return Err(Refusal::NoBytes);
+        };
+        if FRAME_CAPACITY < bytes.len() {
+            return Err(Refusal::FrameTooLong);
+        }
+        let header = wire::rx::parse_can_id(marks.id)?;
+        if !wanted(port, header) {
+            return Ok(None);
+        }
+        Ok(Some(Arrival {
+            header,
+            tail: wire::rx::parse_tail_byte(last),
+            stamp: marks.stamp,
+            loopback: marks.loopback,
+        }))
+    }
+
+    // The frame's bytes without its tail byte, uncopied.
+    fn before_tail(self) -> &'a [u8]
+        ensures { result.now ≡ before_tail self.entry.bytes.now }
+    {
+        &self.bytes[..self.bytes.len().saturating_sub(1)]
+    }
+}
+
+// What a subscription works with while it hears a frame: its settings, and the lent slots and store, which has a part for each source.
+#[derive(Drop)]
+pub(crate) struct Lent<'a> {
+    pub(crate) settings: Settings,
+    pub(crate) slots: &'a mut Slots,
+    pub(crate) store: &'a mut [u8],
+    ghost parts: { nodes * settings.extent ≤ length store.now },
+}
+
+impl Lent<'_> {
+    ghost use Rattle.rx.specs.Lent.{frame_of, Stays, closing, due, due_from};
+
+    // A frame of any kind.
+    #[tactic(auto, using(crate::proofs::Judging::read_as, crate::proofs::Judging::ours_known), unfolding(crate::specs::Accept::accepted))]
+    fn judge(&mut self, heard: Heard<'_>) -> Result<Received, Refusal>
+        ensures stays { Stays self.old self.new }
+        ensures left { closing (answer_of result) self.new ≡ due self.old (frame_of heard.entry) }
+    {
+        let Some(arrival) = heard.read(self.settings.port)? else {
+            return Ok(Received::NotOurs);
+        };
+        self.accept_ours(arrival, heard.before_tail())
+    }
+
+    // A frame that is ours. An anonymous one is delivered uncut and touches no slot.
+    fn accept_ours(&mut self, arrival: Arrival, bytes: &[u8]) -> Result<Received, Refusal>
+        requires { Known (source_in arrival.header) }
+        ensures stays { Stays self.old self.new }
+        ensures left { closing (answer_of result) self.new ≡ by_source (source_in arrival.header) arrival bytes.now (λ answer. closing answer self.old) (due_from self.old) }
+    {
+        match source_in(arrival.header) {
+            None => {
+                let part = Part::OfFrame { len: bytes.len() };
+                Ok(session::deliver(arrival, arrival.stamp, arrival.loopback, part))
+            }
+            Some(node) => {
+                // The same node; the compiler sees from it that there is a slot, and leaves out that test.
+                let own = CanNodeId::from_truncating(node.0);
+                self.accept_from(own, arrival, bytes)
+            }
+        }
+    }
+
+    // A frame of a source that has a slot.
+    #[tactic(auto, using(crate::proofs::Saved::written, crate::proofs::Parts::lent_out, crate::proofs::Parts::part_short, session::proofs::Within::within), unfolding(crate::specs::Accept::in_words))]
+    fn accept_from(
+        &mut self,
+        node: CanNodeId,
+        arrival: Arrival,
+        bytes: &[u8],
+    ) -> Result<Received, Refusal>
+        requires { node.0 < nodes }
+        ensures stays { Stays self.old self.new }
+        ensures left { closing (answer_of result) self.new ≡ due_from self.old node.0 arrival bytes.now }
+    {
+        // Each loan by itself: a part of the store is lent on while the slots are in use.
+        let slots = &mut *self.slots;
+        let store = &mut *self.store;
+        let transfer_id = arrival.tail.transfer_id;
+        let slot = slots::load(slots, node);
+        let Some(slot) = admit(self.settings.timeout, slot, transfer_id, arrival.stamp) else {
+            return Ok(Received::Nothing);
+        };
+        let extent = self.settings.extent as usize;
+        let start = start_of(node, self.settings.extent);
+        let end = start + extent;
+        let step = session::go_on(slot, &mut store[start..end], arrival, bytes);
+        slots::save(slots, node, step.slot);
+        lying_from(start, step.answer)
     }
 }
 
@@ -80,8 +199,7 @@ fn port_valid(port: Port) -> bool
 {
     match port {
         Port::Message(subject) => subject.is_valid(),
-        Port::Request(service) => service_valid(service),
-        Port::Response(service) => service_valid(service),
+        Port::Request(service) | Port::Response(service) => service_valid(service),
     }
 }
 
@@ -89,48 +207,6 @@ fn service_valid(port: ServicePort) -> bool
     ensures { result ≡ service_valid port }
 {
     port.service.is_valid() && port.node.is_valid()
-}
-
-// A frame of any kind, where the store has a part for each source.
-#[tactic(auto, using(crate::proofs::Judging::read_as, crate::proofs::Judging::ours_known), unfolding(crate::specs::Accept::accepted))]
-fn judge(
-    settings: Settings,
-    slots: &mut Slots,
-    store: &mut [u8],
-    marks: Marks,
-    bytes: &[u8],
-) -> Result<Received, Refusal>
-    requires { nodes * settings.extent ≤ length store.old }
-    ensures { closes (answer_of result) slots.new store.new ≡ accepted settings slots.old store.old (frame marks bytes.now) }
-{
-    let Some(arrival) = read(settings.port, marks, bytes)? else {
-        return Ok(Received::NotOurs);
-    };
-    accept_ours(settings, slots, store, arrival, before_tail(bytes))
-}
-
-// What the frame is to the subscription, whatever its slots.
-#[tactic(auto, unfolding(rules::specs::Receiver::reading))]
-fn read(port: Port, marks: Marks, bytes: &[u8]) -> Result<Option<Arrival>, Refusal>
-    ensures { result ≡ reading port (frame marks bytes.now) }
-{
-    let len = bytes.len();
-    if len == 0 {
-        return Err(Refusal::NoBytes);
-    }
-    if FRAME_CAPACITY < len {
-        return Err(Refusal::FrameTooLong);
-    }
-    let header = wire::rx::parse_can_id(marks.id)?;
-    if !wanted(port, header) {
-        return Ok(None);
-    }
-    Ok(Some(Arrival {
-        header,
-        tail: wire::rx::parse_tail_byte(bytes[len - 1]),
-        stamp: marks.stamp,
-        loopback: marks.loopback,
-    }))
 }
 
 // The kind and the port, and for services the destination.
@@ -151,70 +227,13 @@ fn same_service(port: ServicePort, header: ServiceHeader) -> bool
     port.service == header.service && port.node == header.destination
 }
 
-// The frame's bytes without its tail byte, uncopied.
-fn before_tail<'a>(bytes: &'a [u8]) -> &'a [u8]
-    ensures { result.now ≡ before_tail bytes.now }
-{
-    &bytes[..bytes.len().saturating_sub(1)]
-}
-
 fn source_in(header: Header) -> Option<CanNodeId>
     ensures { result ≡ source_in header }
 {
     match header {
         Header::Message(message) => message.source,
-        Header::Request(request) => request.source,
-        Header::Response(response) => response.source,
+        Header::Request(service) | Header::Response(service) => service.source,
     }
-}
-
-// A frame that is ours. An anonymous one is delivered uncut and touches no slot.
-fn accept_ours(
-    settings: Settings,
-    slots: &mut Slots,
-    store: &mut [u8],
-    arrival: Arrival,
-    bytes: &[u8],
-) -> Result<Received, Refusal>
-    requires { Known (source_in arrival.header) × (nodes * settings.extent ≤ length store.old) }
-    ensures { closes (answer_of result) slots.new store.new ≡ by_source (source_in arrival.header) arrival bytes.now (λ answer. closes answer slots.old store.old) (in_words settings slots.old store.old) }
-{
-    match source_in(arrival.header) {
-        None => {
-            let part = Part::OfFrame { len: bytes.len() };
-            Ok(session::deliver(arrival, arrival.stamp, arrival.loopback, part))
-        }
-        Some(node) => {
-            // The same node; the compiler sees from it that there is a slot, and leaves out that test.
-            let own = CanNodeId::from_truncating(node.0);
-            accept_from(settings, own, slots, store, arrival, bytes)
-        }
-    }
-}
-
-// A frame of a source that has a slot.
-fn accept_from(
-    settings: Settings,
-    node: CanNodeId,
-    slots: &mut Slots,
-    store: &mut [u8],
-    arrival: Arrival,
-    bytes: &[u8],
-) -> Result<Received, Refusal>
-    requires { (node.0 < nodes) × (nodes * settings.extent ≤ length store.old) }
-    ensures { closes (answer_of result) slots.new store.new ≡ in_words settings slots.old store.old node.0 arrival bytes.now }
-{
-    let transfer_id = arrival.tail.transfer_id;
-    let slot = slots::load(slots, node);
-    let Some(slot) = admit(settings.timeout, slot, transfer_id, arrival.stamp) else {
-        return Ok(Received::Nothing);
-    };
-    let extent = settings.extent as usize;
-    let start = start_of(node, settings.extent);
-    let end = start + extent;
-    let step = session::go_on(slot, &mut store[start..end], arrival, bytes);
-    slots::save(slots, node, step.slot);
-    lying_from(start, step.answer)
 }
 
 // The ID rule: a repeat, or go on, with a slot that was reset where the ID is a strange one.
@@ -230,8 +249,8 @@ fn admit(timeout: u32, slot: Slot, transfer_id: CanTransferId, stamp: u32) -> Op
     }
     Some(Slot {
         expected: transfer_id,
-        last_time: slot.last_time,
         session: None,
+        ..slot
     })
 }
 

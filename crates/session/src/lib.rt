@@ -25,6 +25,14 @@ pub struct Step {
     pub answer: Result<Received, Refusal>,
 }
 
+// What a source has: its part of the store, which is lent, and its slot. An extent is a number of 16 bits, so that no part is longer.
+#[derive(Drop)]
+struct Cell<'a> {
+    part: &'a mut [u8],
+    slot: Slot,
+    ghost small: { length part.now < 65536 },
+}
+
 // A frame that the ID rule let through. Refuses a part over PART_MAX by 8; slot and part are then unchanged.
 pub fn go_on(slot: Slot, part: &mut [u8], arrival: Arrival, bytes: &[u8]) -> Step
     ensures { turn_of result part.new ≡ went_on slot part.old arrival bytes.now }
@@ -35,41 +43,92 @@ pub fn go_on(slot: Slot, part: &mut [u8], arrival: Arrival, bytes: &[u8]) -> Ste
             answer: Err(Refusal::ExtentTooLarge),
         };
     }
-    take(slot, part, arrival, bytes)
+    let mut cell = Cell { part, slot };
+    cell.take(arrival, bytes)
 }
 
-#[tactic(auto, unfolding(rules::specs::Source::goes_on))]
-fn take(slot: Slot, part: &mut [u8], arrival: Arrival, bytes: &[u8]) -> Step
-    requires { length part.old < 65536 }
-    ensures { turn_of result part.new ≡ goes_on slot part.old arrival bytes.now }
-{
-    let tail = arrival.tail;
-    if tail.start && tail.end {
-        return whole(slot, part, arrival, bytes);
+// Arrival and bytes stay two parameters: in one struct they take more instructions (199 and 534 for 7 bytes at MTU 8 and 64 at MTU 64, and not 196 and 520).
+impl Cell<'_> {
+    // By `same_part` the lender knows that this is still the part that it lent.
+    #[tactic(auto, unfolding(rules::specs::Source::goes_on))]
+    fn take(&mut self, arrival: Arrival, bytes: &[u8]) -> Step
+        ensures same_part { self.new.part.ghost_name ≡ self.old.part.ghost_name }
+        ensures turn { turn_of result self.new.part.now ≡ goes_on self.old.slot self.old.part.now arrival bytes.now }
+    {
+        let tail = arrival.tail;
+        if tail.start && tail.end {
+            return self.whole(arrival, bytes);
+        }
+        match session_for(self.slot.session, arrival) {
+            Some(session) => self.accept(arrival, bytes, session),
+            None => Step {
+                slot: self.slot,
+                answer: Err(Refusal::NoSession),
+            },
+        }
     }
-    match session_for(slot.session, arrival) {
-        Some(session) => accept(slot, part, arrival, bytes, session),
-        None => Step {
-            slot,
-            answer: Err(Refusal::NoSession),
-        },
-    }
-}
 
-// A transfer of one frame, whatever its toggle, its loopback flag or an open session.
-fn whole(slot: Slot, part: &[u8], arrival: Arrival, bytes: &[u8]) -> Step
-    ensures { turn_of result part.now ≡ single slot part.now arrival bytes.now }
-{
-    let len = part.len().min(bytes.len());
-    let delivery = deliver(
-        arrival,
-        arrival.stamp,
-        arrival.loopback,
-        Part::OfFrame { len },
-    );
-    Step {
-        slot: settle(slot, arrival.stamp),
-        answer: Ok(delivery),
+    // A transfer of one frame, whatever its toggle, its loopback flag or an open session.
+    fn whole(&self, arrival: Arrival, bytes: &[u8]) -> Step
+        ensures { turn_of result self.now.part.now ≡ single self.now.slot self.now.part.now arrival bytes.now }
+    {
+        let len = self.part.len().min(bytes.len());
+        let delivery = deliver(
+            arrival,
+            arrival.stamp,
+            arrival.loopback,
+            Part::OfFrame { len },
+        );
+        Step {
+            slot: settle(self.slot, arrival.stamp),
+            answer: Ok(delivery),
+        }
+    }
+
+    // A frame comes to a session.
+    #[tactic(auto, unfolding(rules::specs::Source::in_session))]
+    fn accept(&mut self, arrival: Arrival, bytes: &[u8], session: Session) -> Step
+        ensures same_part { self.new.part.ghost_name ≡ self.old.part.ghost_name }
+        ensures turn { turn_of result self.new.part.now ≡ in_session self.old.slot self.old.part.now arrival bytes.now session }
+    {
+        if !awaited(session, arrival) {
+            return hold(self.slot, session);
+        }
+        buildup::store(self.part, session.total as usize, bytes);
+        let joined = self.add(session, bytes);
+        self.go_on_or_end(arrival, joined)
+    }
+
+    // The session and the part have the frame's bytes.
+    #[tactic(auto, unfolding(rules::specs::Source::continued))]
+    fn go_on_or_end(&self, arrival: Arrival, session: Session) -> Step
+        ensures { turn_of result self.now.part.now ≡ continued self.now.slot self.now.part.now arrival session }
+    {
+        if arrival.tail.end {
+            return self.end(arrival, session);
+        }
+        hold(self.slot, session)
+    }
+
+    // The end bit: what came before the CRC is delivered, up to the extent, or the session is dropped.
+    #[tactic(auto, unfolding(rules::specs::Source::ended))]
+    fn end(&self, arrival: Arrival, session: Session) -> Step
+        ensures { turn_of result self.now.part.now ≡ ended self.now.slot self.now.part.now arrival session }
+    {
+        if session.crc != 0 || session.total < 2 {
+            return drop_session(self.slot);
+        }
+        let len = self.part.len().min(session.total as usize - 2);
+        let delivery = deliver(
+            arrival,
+            session.stamp,
+            session.loopback,
+            Part::OfStore { start: 0, len },
+        );
+        Step {
+            slot: settle(self.slot, session.stamp),
+            answer: Ok(delivery),
+        }
     }
 }
 
@@ -77,10 +136,7 @@ fn whole(slot: Slot, part: &[u8], arrival: Arrival, bytes: &[u8]) -> Step
 fn session_for(session: Option<Session>, arrival: Arrival) -> Option<Session>
     ensures { result ≡ session_for session arrival }
 {
-    match session {
-        Some(open) => Some(open),
-        None => arrival.tail.start.then_some(open(arrival)),
-    }
+    session.or_else(|| arrival.tail.start.then_some(open(arrival)))
 }
 
 fn open(arrival: Arrival) -> Session
@@ -96,59 +152,12 @@ fn open(arrival: Arrival) -> Session
     }
 }
 
-// A frame comes to a session.
-#[tactic(auto, unfolding(rules::specs::Source::in_session))]
-fn accept(slot: Slot, part: &mut [u8], arrival: Arrival, bytes: &[u8], session: Session) -> Step
-    requires { length part.old < 65536 }
-    ensures { turn_of result part.new ≡ in_session slot part.old arrival bytes.now session }
-{
-    if !awaited(session, arrival) {
-        return hold(slot, session);
-    }
-    let extent = part.len();
-    buildup::store(part, session.total as usize, bytes);
-    let joined = buildup::add(session, extent, bytes);
-    go_on_or_end(slot, part, arrival, joined)
-}
-
 fn awaited(session: Session, arrival: Arrival) -> bool
     ensures { result ≡ awaits session arrival }
 {
     session.loopback == arrival.loopback
         && session.expect_start == arrival.tail.start
         && session.expect_toggle == arrival.tail.toggle
-}
-
-// The session and the part have the frame's bytes.
-#[tactic(auto, unfolding(rules::specs::Source::continued))]
-fn go_on_or_end(slot: Slot, part: &[u8], arrival: Arrival, session: Session) -> Step
-    ensures { turn_of result part.now ≡ continued slot part.now arrival session }
-{
-    if arrival.tail.end {
-        return end(slot, part, arrival, session);
-    }
-    hold(slot, session)
-}
-
-// The end bit: what came before the CRC is delivered, up to the extent, or the session is dropped.
-#[tactic(auto, unfolding(rules::specs::Source::ended))]
-fn end(slot: Slot, part: &[u8], arrival: Arrival, session: Session) -> Step
-    ensures { turn_of result part.now ≡ ended slot part.now arrival session }
-{
-    if session.crc != 0 || session.total < 2 {
-        return drop_session(slot);
-    }
-    let len = part.len().min(session.total as usize - 2);
-    let delivery = deliver(
-        arrival,
-        session.stamp,
-        session.loopback,
-        Part::OfStore { start: 0, len },
-    );
-    Step {
-        slot: settle(slot, session.stamp),
-        answer: Ok(delivery),
-    }
 }
 
 // A residue other than 0: the expected ID and the last time are kept.
@@ -171,23 +180,11 @@ fn hold(slot: Slot, session: Session) -> Step
     }
 }
 
-// The last time is taken apart and put together again: moved whole, it would go through one word of 64 bits.
+// The slot with another session, or with none.
 fn with_session(slot: Slot, session: Option<Session>) -> Slot
     ensures { result ≡ with_session slot session }
 {
-    let expected = slot.expected;
-    match slot.last_time {
-        Some(last) => Slot {
-            expected,
-            last_time: Some(last),
-            session,
-        },
-        None => Slot {
-            expected,
-            last_time: None,
-            session,
-        },
-    }
+    Slot { session, ..slot }
 }
 
 // The slot after a delivery: its ID steps, and its session is dropped.

@@ -2,13 +2,14 @@
 -- are the old ones but for the CRC, the start bit and the toggle.
 use Rattle.std.specs.Prelude.{None, Option, Some, unwrap_or}
 use mathlib.Core.Path.{◌≡◌, refl, sym, ap, ◌∙◌}
-use mathlib.Core.Bool.{Bool, true, false, not, cond, ◌&&◌, beq, and_assoc, false≢true}
+use mathlib.Core.Bool.{Bool, true, false, not, cond, false≢true}
 use mathlib.Core.List.{List, [], ◌∷◌}
 use Prim.Native.Nat.{ℕ, ◌+◌, ◌-◌, ◌*◌, ◌/◌, ◌%◌}
 use native.Mathlib.Omega.{arith}
 use lib.Dec.{eqb}
-use lib.ListN.{get_or}
-use borrow.Author.Tests.{eq-eqb, ne_eqb, eqb-true, eqb-false}
+use lib.ListN.{get_or, set}
+use borrow.Author.Tests.{eqb-true, eqb-false}
+use Rattle.std.proofs.lemmas.List.{set-get_or}
 use Rattle.laws.proofs.Choose.{first_chosen, both_true}
 use Rattle.rules.specs.declared.tail.TailByte.{TailByte as Tail}
 use Rattle.rules.specs.declared.slots.Session.{Session}
@@ -37,26 +38,6 @@ other_bit : (b : Bool) → bit (not b) ≡ 1 - bit b
 other_bit true = refl
 other_bit false = refl
 
-same_test : (a b c d : ℕ) → (a ≡ b → c ≡ d) → (c ≡ d → a ≡ b) → eqb a b ≡ eqb c d
-same_test a b c d f g = go (eqb c d) refl
-  where
-    go : (t : Bool) → eqb c d ≡ t → eqb a b ≡ t
-    go true e = eq-eqb a b (g (eqb-true c d e))
-    go false e = ne_eqb a b (λ h. eqb-false c d e (f h))
-
--- two numbers are the same where their lowest bits are, and what stands above these
-same_digit : (a b : Bool) (x y : ℕ) → eqb (bit a + 2 * x) (bit b + 2 * y) ≡ (beq a b && eqb x y)
-same_digit true true x y = same_test (1 + 2 * x) (1 + 2 * y) x y (λ h. omega arith) (λ h. omega arith)
-same_digit true false x y = ne_eqb (1 + 2 * x) (0 + 2 * y) (λ h. omega arith)
-same_digit false true x y = ne_eqb (0 + 2 * x) (1 + 2 * y) (λ h. omega arith)
-same_digit false false x y = same_test (0 + 2 * x) (0 + 2 * y) x y (λ h. omega arith) (λ h. omega arith)
-
-same_bit : (a b : Bool) → eqb (bit a) (bit b) ≡ beq a b
-same_bit true true = refl
-same_bit true false = refl
-same_bit false true = refl
-same_bit false false = refl
-
 -- ---- awaited
 
 -- the session that is read, if one is
@@ -78,48 +59,6 @@ by_marks stamp total m l t = go (flag_of (m / 512))
     go : (a : Bool) → session_awaits (cond a (Some (read stamp m total)) None) l t ≡ session_awaits (cond a (Some (read 0 m 0)) None) l t
     go true = refl
     go false = refl
-
-low_four : (n : ℕ) → n % 16 ≡ n % 2 + 2 * (n / 2 % 2 + 2 * (n / 2 / 2 % 2 + 2 * (n / 2 / 2 / 2 % 2)))
-low_four n = rw (of_sixteen n, of_eight (n / 2), of_four (n / 2 / 2))
-  where
-    of_four : (k : ℕ) → k % 4 ≡ k % 2 + 2 * (k / 2 % 2)
-    of_four k = omega arith
-
-    of_eight : (k : ℕ) → k % 8 ≡ k % 2 + 2 * (k / 2 % 4)
-    of_eight k = omega arith
-
-    of_sixteen : (k : ℕ) → k % 16 ≡ k % 2 + 2 * (k / 2 % 8)
-    of_sixteen k = omega arith
-
--- the four bits from the session's own on
-four_bits : (m : ℕ) → m / 512 % 16 ≡ bit (flag_of (m / 512)) + 2 * (bit (flag_of (m / 1024)) + 2 * (bit (flag_of (m / 2048)) + 2 * bit (flag_of (m / 4096))))
-four_bits m =
-    let b : m / 1024 ≡ m / 512 / 2 = omega arith in
-    let c : m / 2048 ≡ m / 512 / 2 / 2 = omega arith in
-    let d : m / 4096 ≡ m / 512 / 2 / 2 / 2 = omega arith in
-    rw (flag_bit (m / 512), flag_bit (m / 1024), flag_bit (m / 2048), flag_bit (m / 4096), b, c, d) (low_four (m / 512))
-
-pub marks_awaited : (m : ℕ) (l t : Bool) → eqb (m / 512 % 16) (1 + 2 * bit l + 8 * bit t) ≡ session_awaits (session_in 0 m 0) l t
-marks_awaited m l t =
-    let a : Bool = flag_of (m / 512) in
-    let b : Bool = flag_of (m / 1024) in
-    let c : Bool = flag_of (m / 2048) in
-    let d : Bool = flag_of (m / 4096) in
-    let e : 1 + 2 * bit l + 8 * bit t ≡ bit true + 2 * (bit l + 2 * (bit false + 2 * bit t)) = omega arith in
-    ap (λ (n : ℕ). eqb n (1 + 2 * bit l + 8 * bit t)) (four_bits m)
-    ∙ ap (eqb (bit a + 2 * (bit b + 2 * (bit c + 2 * bit d)))) e
-    ∙ same_digit a true (bit b + 2 * (bit c + 2 * bit d)) (bit l + 2 * (bit false + 2 * bit t))
-    ∙ ap (λ (x : Bool). beq a true && x)
-    (same_digit b l (bit c + 2 * bit d) (bit false + 2 * bit t)
-    ∙ ap (λ (x : Bool). beq b l && x) (same_digit c false (bit d) (bit t) ∙ ap (λ (x : Bool). beq c false && x) (same_bit d t)))
-    ∙ go a b c d
-  where
-    go : (a b c d : Bool) → (beq a true && (beq b l && (beq c false && beq d t)))
-        ≡ session_awaits
-        (cond a (Some record { stamp = 0; loopback = b; expect_start = c; expect_toggle = d; crc = m / 65536 % 65536; total = 0 }) None) l t
-    go true b true d = sym (and_assoc (beq b l) false (beq d t))
-    go true b false d = sym (and_assoc (beq b l) true (beq d t))
-    go false b c d = refl
 
 -- ---- one frame further
 
@@ -148,9 +87,14 @@ words_on_lem w p h =
     (ap (λ (n : ℕ). (time_words (last_time_in (get_or w 0 0) m)).time ∷ get_or w 1 0 ∷ n ∷ p.total ∷ []) (marks_on (get_or w 0 0) m p.crc))
 
 -- with no session the words are as they were
-pub words_kept : (w : List ℕ) (p : Progress) → flag_of (get_or w 2 0 / 512) ≡ false → words_on w p ≡ w
+words_kept : (w : List ℕ) (p : Progress) → flag_of (get_or w 2 0 / 512) ≡ false → words_on w p ≡ w
 unfolding words_on slot_of
 words_kept w p h = rw h
+
+-- and so are the words of all
+pub all_kept : (slots : List (List ℕ)) (i : ℕ) (p : Progress) → flag_of (get_or (get_or slots i []) 2 0 / 512) ≡ false
+    → set slots i (words_on (get_or slots i []) p) ≡ slots
+all_kept slots i p h = ap (set slots i) (words_kept (get_or slots i []) p h) ∙ set-get_or slots i []
 
 -- ---- for those who go by the slot
 

@@ -4,7 +4,7 @@
 
 ghost use Rattle.std.specs.Prelude.{◌≡◌, true, [], ◌<◌, ◌/◌, ◌%◌, ◌^◌, get_or, set};
 ghost use Rattle.rules.specs.Slot.{fresh_slot};
-ghost use Rattle.slots.specs.Words.{time_words, session_marks, session_words, words_of, flag_of, last_time_in, session_in, slot_of};
+ghost use Rattle.slots.specs.Words.{time_words, session_marks, session_words, words_of, flag_of, crc_in, last_time_in, session_in, slot_of};
 ghost use Rattle.slots.specs.Middle.{session_awaits, slot_awaits, progress_in, words_on};
 
 use rules::slots::{Session, Slot};
@@ -30,21 +30,19 @@ pub(crate) struct SessionWords {
 }
 
 // How far a session is: its CRC and its byte total.
-#[derive(Clone, Copy)]
+#[derive(Clone, Copy, Default)]
 pub struct Progress {
     pub crc: u16,
     pub total: u32,
 }
 
 // The slot of a source; a fresh one for a node that has none.
+#[tactic(auto, unfolding(crate::specs::Words::slot_of))]
 pub fn load(slots: &[[u32; 4]], source: CanNodeId) -> Slot
     ensures { result ≡ slot_of (get_or slots.now source.0 []) }
 {
-    let i = source.0 as usize;
-    if slots.len() <= i {
-        return unpack([0; 4]);
-    }
-    unpack(slots[i])
+    let own = slots.get(source.0 as usize).copied();
+    unpack(own.unwrap_or([0; 4]))
 }
 
 // Writes the slot of a source; no other slot's words change, and none for a node that has no slot.
@@ -52,6 +50,7 @@ pub fn save(slots: &mut [[u32; 4]], source: CanNodeId, slot: Slot)
     ensures { slots.new ≡ set slots.old source.0 (words_of slot) }
 {
     let i = source.0 as usize;
+    // no `get_mut`, for whose item the library does not say what the slice ends as
     if i < slots.len() {
         slots[i] = pack(slot);
     }
@@ -59,14 +58,14 @@ pub fn save(slots: &mut [[u32; 4]], source: CanNodeId, slot: Slot)
 
 // Whether the slot of a source expects the ID of this tail byte, with a session that has its start and awaits the toggle and the loopback flag. False for a node
 // that has no slot. The bits are looked at where they lie, with no slot made of them.
+#[tactic(auto, using(crate::proofs::Middle::by_marks, crate::proofs::Words::fresh_words), unfolding(crate::specs::Middle::slot_awaits, crate::specs::Words::slot_of))]
 pub fn awaits(slots: &[[u32; 4]], source: CanNodeId, tail: TailByte, loopback: bool) -> bool
     ensures { result ≡ slot_awaits (slot_of (get_or slots.now source.0 [])) tail loopback }
 {
-    let i = source.0 as usize;
-    if slots.len() <= i {
+    let Some(own) = slots.get(source.0 as usize) else {
         return false;
-    }
-    let marks = slots[i][2];
+    };
+    let marks = own[2];
     let transfer_id = tail.transfer_id;
     if transfer_id.0 as u32 != marks % 256 {
         return false;
@@ -75,36 +74,36 @@ pub fn awaits(slots: &[[u32; 4]], source: CanNodeId, tail: TailByte, loopback: b
 }
 
 // How far the session of a source is; whatever stands in its words where it has none, and nothing for a node that has no slot.
+#[tactic(auto, unfolding(crate::specs::Middle::progress_in))]
 pub fn so_far(slots: &[[u32; 4]], source: CanNodeId) -> Progress
     ensures { result ≡ progress_in (get_or slots.now source.0 []) }
 {
-    let i = source.0 as usize;
-    if slots.len() <= i {
-        return Progress { crc: 0, total: 0 };
-    }
-    let [_, _, marks, total] = slots[i];
+    let Some(&[_, _, marks, total]) = slots.get(source.0 as usize) else {
+        return Progress::default();
+    };
     Progress {
-        crc: (marks / 65536 % 65536) as u16,
+        crc: crc_in(marks),
         total,
     }
 }
 
 // The session of a source is this far, has its start and awaits the other toggle. Nothing else of the slot changes, and no other slot's words; nothing at all
 // where there is no session, or for a node that has no slot.
+#[tactic(auto, using(crate::proofs::Middle::all_kept))]
 pub fn advance(slots: &mut [[u32; 4]], source: CanNodeId, progress: Progress)
     ensures { slots.new ≡ set slots.old source.0 (words_on (get_or slots.old source.0 []) progress) }
 {
     let i = source.0 as usize;
-    if slots.len() <= i {
+    let Some(&own) = slots.get(i) else {
         return;
+    };
+    if flag(own[2] / 512) {
+        // By its index, as in `save`.
+        slots[i] = words_on(own, progress);
     }
-    let own = slots[i];
-    if !flag(own[2] / 512) {
-        return;
-    }
-    slots[i] = words_on(own, progress);
 }
 
+#[tactic(auto, unfolding(crate::specs::Words::words_of))]
 fn pack(slot: Slot) -> [u32; 4]
     ensures { result ≡ words_of slot }
 {
@@ -146,6 +145,7 @@ fn session_marks(s: Session) -> u32
         | 512
 }
 
+#[tactic(auto, unfolding(crate::specs::Words::slot_of))]
 fn unpack(words: [u32; 4]) -> Slot
     ensures { result ≡ slot_of words }
 {
@@ -155,6 +155,13 @@ fn unpack(words: [u32; 4]) -> Slot
         last_time: last_time_in(time, marks),
         session: session_in(stamp, marks, total),
     }
+}
+
+// The CRC in a slot's marks.
+fn crc_in(marks: u32) -> u16
+    ensures { result ≡ crc_in marks }
+{
+    (marks / 65536 % 65536) as u16
 }
 
 fn last_time_in(time: u32, marks: u32) -> Option<u32>
@@ -171,7 +178,7 @@ fn session_in(stamp: u32, marks: u32, total: u32) -> Option<Session>
         loopback: flag(marks / 1024),
         expect_start: flag(marks / 2048),
         expect_toggle: flag(marks / 4096),
-        crc: (marks / 65536 % 65536) as u16,
+        crc: crc_in(marks),
         total,
     })
 }
@@ -190,6 +197,7 @@ fn marks_await(marks: u32, loopback: bool, toggle: bool) -> bool
     bits == 1 + 2 * (loopback as u32) + 8 * (toggle as u32)
 }
 
+#[tactic(auto, using(crate::proofs::Middle::kept, crate::proofs::Middle::words_on_lem))]
 fn words_on(words: [u32; 4], progress: Progress) -> [u32; 4]
     requires { flag_of (get_or words 2 0 / 512) ≡ true }
     ensures { result ≡ words_on words progress }

@@ -15,6 +15,7 @@ mod breakdown;
 mod judge;
 mod put;
 
+#[repr(C)]
 #[derive(Clone, Copy)]
 pub struct CanTransmitter {
     // the bytes of a frame, the tail byte with them; any number can stand here
@@ -48,9 +49,7 @@ impl CanTransmitter {
     pub fn set_mtu(self, mtu: usize) -> Self
         ensures { result ≡ record { mtu = mtu; transfer_count = self.transfer_count; error_count = self.error_count } }
     {
-        let mut changed = self;
-        changed.mtu = mtu;
-        changed
+        CanTransmitter { mtu, ..self }
     }
 
     // The bytes before a tail byte; 0 for an MTU of 0.
@@ -124,9 +123,8 @@ impl CanTransmitter {
     {
         Sent {
             transmitter: CanTransmitter {
-                mtu: self.mtu,
                 transfer_count: self.transfer_count.wrapping_add(1),
-                error_count: self.error_count,
+                ..self
             },
             queue,
             answer: Ok(()),
@@ -138,9 +136,8 @@ impl CanTransmitter {
     {
         Sent {
             transmitter: CanTransmitter {
-                mtu: self.mtu,
-                transfer_count: self.transfer_count,
                 error_count: self.error_count.wrapping_add(1),
+                ..self
             },
             queue,
             answer: Err(refusal),

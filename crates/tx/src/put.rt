@@ -96,6 +96,7 @@ impl Labels {
             toggle: true,
             transfer_id: id,
         };
+        // Not `chunks_exact`: its remainder takes a division.
         while let Some((part, behind)) = left.split_at_checked(room) {
             q = self.one(q, places, part, tail);
             left = behind;

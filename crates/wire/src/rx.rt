@@ -134,10 +134,7 @@ fn priority(id: u32) -> Priority
 fn message_source(id: u32) -> Option<CanNodeId>
     ensures { result ≡ source_of id }
 {
-    if bit_set(id, 24) {
-        return None;
-    }
-    Some(node(id, 0))
+    (!bit_set(id, 24)).then_some(node(id, 0))
 }
 
 fn message_header(id: u32) -> MessageHeader

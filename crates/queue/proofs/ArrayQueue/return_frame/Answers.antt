@@ -6,10 +6,10 @@ use Rattle.queue.proofs.ArrayQueue.return_frame.Goals as goal
 
 pub invariant_of-ring : goal.invariant_of-ring
 invariant_of-ring c =
-    let s = (placed_in c.args.self c.args.places.now (frame c.args.marks c.args.bytes.now) (c.in-Ok.ensures c.args.bytes.now refl)).0 in
+    let s = (placed_in c.args.self c.args.places.now (frame c.args.marks c.args.bytes.now) (c.in_default.ensures c.args.bytes.now refl)).0 in
     record { inside = s.head; small = s.small }
 
-pub grown-queue-requires : goal.grown-queue-requires
-grown-queue-requires c =
-    let r = placed_in c.args.self c.args.places.now (frame c.args.marks c.args.bytes.now) (c.in-Ok.ensures c.args.bytes.now refl) in
+pub placed-requires : goal.placed-requires
+placed-requires c =
+    let r = placed_in c.args.self c.args.places.now (frame c.args.marks c.args.bytes.now) (c.in_default.ensures c.args.bytes.now refl) in
     omega arith

@@ -9,15 +9,16 @@ use Rattle.laws.proofs.Digits.{none_digits, cons_digits}
 use Rattle.laws.proofs.Parts.{value_at}
 use Rattle.tracker.specs.Row.{word_base, Sound}
 use Rattle.tracker.proofs.Row.{stepped}
-use Rattle.tracker.proofs.in_two.Goals as goal
+use Rattle.tracker.proofs.Place.in_two.Goals as goal
 
 pub returns : goal.returns
 unfolding value_of
-returns c n node place =
+returns c =
+    let p = c.args.self in
     let t = c.args.tracker in
-    let k = c.args.at in
-    let next = c.increment-after in
-    let put = c.with_five-next in
+    let k = c.args.self.at in
+    let next = c.increment in
+    let put = c.with-next in
     let fit : (k : ℕ) → Fits w32 (get_or t.ids k 0) = λ k. search rules in
     let sound : Sound t = record { twenty = search rules; fit = λ k. (fit k).fits } in
     let low = get_or t.ids k 0 in
@@ -39,6 +40,6 @@ returns c n node place =
     let down_fits : down < word_base = omega (arith, and_le_r put.result (2 ^ 32 - 1)) in
     let up_fits : up < word_base = search rules in
     let digits = cons_digits word_base (lit< tt) down (up ∷ []) down_fits (cons_digits word_base (lit< tt) up [] up_fits (none_digits word_base (lit< tt))) in
-    ap (λ (j : ℕ). record { tracker = record { ids = set (set t.ids k down) j up }; answer = Ok c.five_at-id.result }) (add-one k)
-    ∙ stepped t sound n k c.args.shift node place (down ∷ up ∷ []) pair next.result (omega arith) (omega arith) window (parts ∙ put.ensures)
-    c.five_at-id.result digits c.five_at-id.ensures next.ensures
+    ap (λ (j : ℕ). record { tracker = record { ids = set (set t.ids k down) j up }; answer = Ok c.five-id.result }) (add-one k)
+    ∙ stepped t sound p.node.0 k p.shift p.known p.begins (down ∷ up ∷ []) pair next.result (omega arith) (omega arith) window (parts ∙ put.ensures)
+    c.five-id.result digits c.five-id.ensures next.ensures

@@ -4,13 +4,14 @@ use Rattle.rules.specs.declared.tail.TailByte.{TailByte as Tail}
 use Rattle.slots.specs.Words.{slot_of}
 use Rattle.slots.specs.Middle.{slot_awaits}
 use Rattle.rx.proofs.InMiddle.{short_way}
-use Rattle.rx.proofs.middle.lay.Goals as goal
+use Rattle.rx.proofs.subscription.Lent.lay.Goals as goal
 
-pub returns : goal.returns
-returns c x p q =
-    let slot = slot_of (get_or c.args.slots.now c.args.node.0 []) in
-    let b = ap (λ (y : Tail). y.start) p ∙ c.requires.2 in
-    let e = ap (λ (y : Tail). y.end) p ∙ c.requires.3 in
+pub returns-clause-left : goal.returns-clause-left
+returns-clause-left c x p q =
+    let l = c.args.self.now in
+    let slot = slot_of (get_or l.slots.now c.args.node.0 []) in
+    let b = ap (λ (y : Tail). y.start) p ∙ c.requires.1 in
+    let e = ap (λ (y : Tail). y.end) p ∙ c.requires.2 in
     let on : c.awaits.result ≡ true = cc in
     let aw = ap (λ y. slot_awaits slot y x.loopback) p ∙ ap (slot_awaits slot c.args.tail) q ∙ sym c.awaits.ensures ∙ on in
     short_way
@@ -18,9 +19,9 @@ returns c x p q =
     c.args.bytes.now
     b
     e
-    c.args.settings
-    c.args.slots.now
-    c.args.store.now
+    l.settings
+    l.slots.now
+    l.store.now
     c.args.node.0
     c.start_of-start.result
     c.so_far-so_far.result

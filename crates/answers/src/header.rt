@@ -6,16 +6,29 @@ use rules::types::{CanNodeId, Priority, ServiceId, SubjectId};
 const NO_NODE: u8 = 255;
 
 fn source(node: u8) -> Option<CanNodeId> {
-    if node == NO_NODE {
-        return None;
-    }
-    Some(CanNodeId(node))
+    (node != NO_NODE).then_some(CanNodeId(node))
 }
 
 fn source_number(source: Option<CanNodeId>) -> u8 {
-    match source {
-        Some(node) => node.0,
-        None => NO_NODE,
+    source.map_or(NO_NODE, |node| node.0)
+}
+
+// What is transferred, numbered as in the list.
+#[derive(Clone, Copy)]
+pub(crate) enum Kind {
+    Message,
+    Request,
+    Response,
+}
+
+impl From<u8> for Kind {
+    fn from(number: u8) -> Self {
+        match number {
+            0 => Kind::Message,
+            1 => Kind::Request,
+            // 2 in the list, which has no number above; those are read as 2 is
+            _ => Kind::Response,
+        }
     }
 }
 
@@ -24,46 +37,48 @@ pub(crate) fn made(word: u32, port: u16) -> Header {
     let [kind, priority, from, destination] = word.to_le_bytes();
     let priority = Priority(priority);
     let source = source(from);
-    if kind == 0 {
-        return Header::Message(MessageHeader {
-            priority,
-            subject: SubjectId(port),
-            source,
-        });
-    }
+    let message = MessageHeader {
+        priority,
+        subject: SubjectId(port),
+        source,
+    };
     let service = ServiceHeader {
         priority,
         service: ServiceId(port),
         source,
         destination: CanNodeId(destination),
     };
-    if kind == 1 {
-        Header::Request(service)
-    } else {
-        Header::Response(service)
+    match Kind::from(kind) {
+        Kind::Message => Header::Message(message),
+        Kind::Request => Header::Request(service),
+        Kind::Response => Header::Response(service),
     }
 }
 
 // The word of a header.
 pub(crate) fn word(header: Header) -> u32 {
     let (kind, priority, source, destination) = match header {
-        Header::Message(message) => (0, message.priority, message.source, NO_NODE),
-        Header::Request(request) => (1, request.priority, request.source, request.destination.0),
+        Header::Message(message) => (Kind::Message, message.priority, message.source, NO_NODE),
+        Header::Request(request) => (
+            Kind::Request,
+            request.priority,
+            request.source,
+            request.destination.0,
+        ),
         Header::Response(response) => (
-            2,
+            Kind::Response,
             response.priority,
             response.source,
             response.destination.0,
         ),
     };
-    u32::from_le_bytes([kind, priority.0, source_number(source), destination])
+    u32::from_le_bytes([kind as u8, priority.0, source_number(source), destination])
 }
 
 // The port of a header.
 pub(crate) fn port(header: Header) -> u16 {
     match header {
         Header::Message(message) => message.subject.0,
-        Header::Request(request) => request.service.0,
-        Header::Response(response) => response.service.0,
+        Header::Request(service) | Header::Response(service) => service.service.0,
     }
 }

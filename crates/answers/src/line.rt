@@ -1,7 +1,7 @@
 // The queue and the sender above it.
 use crate::record::{Answer, Record};
 use crate::{header, payload};
-use queue::{ArrayQueue, Held, Place, Pushed};
+use queue::{ArrayQueue, Held, PLACE, Place, Pushed};
 use rules::frame::Marks;
 use rules::send::Transfer;
 use rules::types::CanTransferId;
@@ -23,7 +23,7 @@ impl Line {
                 length: 0,
                 capacity: 0,
             },
-            places: [[0; 76]; 256],
+            places: [[0; PLACE]; 256],
             transmitter: CanTransmitter::new(8),
         }
     }
@@ -129,12 +129,11 @@ fn is_shown(held: Option<Held>, record: &Record, queued: usize) -> bool {
         length: 0,
         bytes: [0; 64],
     };
-    let answer = if held.is_some() {
-        Answer::Done
-    } else {
-        Answer::Nothing
+    let (answer, frame) = match held {
+        Some(frame) => (Answer::Done, frame),
+        None => (Answer::Nothing, none),
     };
-    record.tells_queued(answer, queued) && is_frame(held.unwrap_or(none), record)
+    record.tells_queued(answer, queued) && is_frame(frame, record)
 }
 
 fn is_frame(held: Held, record: &Record) -> bool {

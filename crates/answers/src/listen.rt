@@ -1,4 +1,5 @@
 // The subscription.
+use crate::header::Kind;
 use crate::record::{Answer, Record};
 use crate::{header, payload};
 use rules::receive::{Delivery, Received};
@@ -60,10 +61,10 @@ fn port(word: u32) -> Port {
         service: ServiceId(number),
         node: CanNodeId(node),
     };
-    match kind {
-        0 => Port::Message(SubjectId(number)),
-        1 => Port::Request(service),
-        _ => Port::Response(service),
+    match Kind::from(kind) {
+        Kind::Message => Port::Message(SubjectId(number)),
+        Kind::Request => Port::Request(service),
+        Kind::Response => Port::Response(service),
     }
 }
 

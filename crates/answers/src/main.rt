@@ -63,7 +63,7 @@ impl Desk {
 // Replays all records, and counts.
 fn replay_all(list: &mut impl Read) -> io::Result<Tally> {
     let mut desk = Desk::new();
-    let mut tally = Tally::new();
+    let mut tally = Tally::default();
     for _ in 0..record::count(list)? {
         let record = Record::next(list)?;
         tally.count(record.row, desk.replay(&record));

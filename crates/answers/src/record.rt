@@ -12,6 +12,7 @@ pub(crate) enum Answer {
     Delivered,
     Nothing,
     NotOurs,
+    // as the list has it: any number, of which `Refusal::number` gives ours
     Refused(u8),
 }
 

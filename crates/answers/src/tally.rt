@@ -3,15 +3,13 @@ use crate::call::Call;
 use std::fmt::Display;
 use std::io;
 
-#[derive(Clone, Copy)]
+#[derive(Clone, Copy, Default)]
 struct Count {
     right: u64,
     wrong: u64,
 }
 
 impl Count {
-    const NONE: Count = Count { right: 0, wrong: 0 };
-
     fn add(&mut self, is_right: bool) {
         let counted = if is_right {
             &mut self.right
@@ -28,20 +26,13 @@ impl Count {
 }
 
 // A count for each call, by its number, and one for all.
-#[derive(Clone, Copy)]
+#[derive(Clone, Copy, Default)]
 pub(crate) struct Tally {
     calls: [Count; 14],
     all: Count,
 }
 
 impl Tally {
-    pub fn new() -> Self {
-        Tally {
-            calls: [Count::NONE; 14],
-            all: Count::NONE,
-        }
-    }
-
     pub fn count(&mut self, call: Option<Call>, is_right: bool) {
         if let Some(call) = call {
             self.calls[call as usize].add(is_right);

@@ -1,5 +1,5 @@
 // A node that sends: its queue, and the places that the queue is lent with each call.
-use queue::{ArrayQueue, Held, Place};
+use queue::{ArrayQueue, Held, PLACE, Place};
 use rules::header::{Header, MessageHeader};
 use rules::refusal::Refusal;
 use rules::send::Transfer;
@@ -21,7 +21,7 @@ impl Sender {
         };
         Sender {
             queue: ArrayQueue::new(16).unwrap_or(none),
-            places: [[0; 76]; 16],
+            places: [[0; PLACE]; 16],
         }
     }
 

@@ -7,6 +7,7 @@ use rules::types::{CanNodeId, CanTransferId, Priority, ServiceId, SubjectId};
 use std::io;
 
 // The plan; none, no frames at all, for a payload over the limit.
+// That is no `Option`, as the rows print its numbers; each true plan has a frame.
 fn plan(payload_length: usize, mtu: Mtu) -> FrameStats {
     let none = FrameStats {
         frames: 0,
@@ -73,6 +74,7 @@ pub(crate) fn one_frame(sheet: &mut Sheet<impl Print>) -> io::Result<()> {
 }
 
 // The CAN ID of a header; all ones, which is none, where it is refused.
+// That is no `Option`, as the row prints the number; no ID has 64 ones.
 pub(crate) fn id_of(header: Header, payload: &[u8]) -> Hex<8> {
     Hex(wire::tx::make_can_id(header, payload).map_or(u64::MAX, |id| u64::from(id.0)))
 }

@@ -3,8 +3,10 @@ use crate::cases;
 use crate::print::{Hex, Sheet};
 use rules::data::Mtu;
 use rules::header::Header;
+use rules::refusal::Refusal;
 use rules::types::{CanNodeId, CanTransferId};
-use std::io;
+use std::fmt::Display;
+use std::{fmt, io};
 use tracker::CanTransferIdTracker;
 
 // Check values of CRC-16/CCITT-FALSE, also catalogued as CRC-16/IBM-3740.
@@ -45,10 +47,7 @@ fn between(id: u32) -> Option<u16> {
     let Ok(Header::Request(request)) = wire::rx::parse_can_id(id) else {
         return None;
     };
-    let Some(source) = request.source else {
-        return None;
-    };
-    Some(u16::from_be_bytes([request.destination.0, source.0]))
+    Some(u16::from_be_bytes([request.destination.0, request.source?.0]))
 }
 
 // The node information request, service 430, from node 123 to node 42, priority 4, transfer ID 1, and its response's ID.
@@ -59,6 +58,7 @@ pub(crate) fn node_information(sheet: &mut Sheet<impl Print>) -> io::Result<()> 
     sheet.row(asked, cases::id_of(request, b""), Hex(0x136B_957B))?;
     let only = tail(true, true, true, CanTransferId(1));
     sheet.row("its tail byte", only, Hex(0xE1))?;
+    // a number for none too, as the row prints it; no two bytes make 64 ones
     let said = between(0x136B_957B).map_or(u64::MAX, u64::from);
     let asked = "its ID read, destination and source";
     sheet.row(asked, Hex::<4>(said), Hex(0x2A7B))?;
@@ -88,6 +88,19 @@ pub(crate) fn response_frames(sheet: &mut Sheet<impl Print>) -> io::Result<()> {
     Ok(())
 }
 
+// What a tracker answers: the number that it gives, or 100 more than that of the refusal.
+#[derive(Clone, Copy, PartialEq, Eq)]
+struct Given(Result<CanTransferId, Refusal>);
+
+impl Display for Given {
+    fn fmt<W: fmt::Write>(&self, f: &mut fmt::Formatter<W>) -> fmt::Result {
+        match self.0 {
+            Ok(id) => write!(f, "{}", id.0),
+            Err(refusal) => write!(f, "{}", refusal.number().wrapping_add(100)),
+        }
+    }
+}
+
 // A tracker that is asked for one number after another.
 #[derive(Drop)]
 struct Asking {
@@ -95,15 +108,15 @@ struct Asking {
 }
 
 impl Asking {
-    // The number that the tracker gives, or 100 more than that of the refusal.
-    fn next(&mut self, destination: u8) -> u8 {
+    fn next(&mut self, destination: u8) -> Given {
         let asked = self.tracker.next_transfer_id(CanNodeId(destination));
         self.tracker = asked.tracker;
-        match asked.answer {
-            Ok(id) => id.0,
-            Err(refusal) => refusal.number().wrapping_add(100),
-        }
+        Given(asked.answer)
     }
+}
+
+fn gives(id: u8) -> Given {
+    Given(Ok(CanTransferId(id)))
 }
 
 // Destination 6 owns bits 30 to 34 of the row, which straddle two words. A row of ones has 31 for every destination.
@@ -111,16 +124,24 @@ pub(crate) fn transfer_ids(sheet: &mut Sheet<impl Print>) -> io::Result<()> {
     let mut fresh = Asking {
         tracker: CanTransferIdTracker::new(),
     };
-    sheet.row("destination 6, asked first", fresh.next(6), 0)?;
-    sheet.row("destination 6, asked again", fresh.next(6), 1)?;
+    sheet.row("destination 6, asked first", fresh.next(6), gives(0))?;
+    sheet.row("destination 6, asked again", fresh.next(6), gives(1))?;
     let mut ones = Asking {
         tracker: CanTransferIdTracker {
             ids: [u32::MAX; 20],
         },
     };
-    sheet.row("destination 6 of a row of ones", ones.next(6), 31)?;
-    sheet.row("destination 6 of that row, asked again", ones.next(6), 0)?;
-    sheet.row("destination 7 of that row, left alone", ones.next(7), 31)?;
+    sheet.row("destination 6 of a row of ones", ones.next(6), gives(31))?;
+    sheet.row(
+        "destination 6 of that row, asked again",
+        ones.next(6),
+        gives(0),
+    )?;
+    sheet.row(
+        "destination 7 of that row, left alone",
+        ones.next(7),
+        gives(31),
+    )?;
     let asked = "destination 128, refusal (100 + its number)";
-    sheet.row(asked, ones.next(128), 112)
+    sheet.row(asked, ones.next(128), Given(Err(Refusal::Field)))
 }

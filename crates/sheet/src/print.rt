@@ -1,4 +1,5 @@
 // What is printed, and how many rows were right.
+use rules::refusal::Refusal;
 use std::fmt::Display;
 use std::{fmt, io};
 
@@ -18,6 +19,16 @@ impl<const DIGITS: usize> Display for Hex<DIGITS> {
     fn fmt<W: fmt::Write>(&self, f: &mut fmt::Formatter<W>) -> fmt::Result {
         let n = self.0;
         write!(f, "{n:0DIGITS$x}")
+    }
+}
+
+// The refusal of what was asked, by its number; 0 for none.
+#[derive(Clone, Copy, PartialEq, Eq)]
+struct Refused(Option<Refusal>);
+
+impl Display for Refused {
+    fn fmt<W: fmt::Write>(&self, f: &mut fmt::Formatter<W>) -> fmt::Result {
+        write!(f, "{}", self.0.map_or(0, Refusal::number))
     }
 }
 
@@ -52,6 +63,16 @@ impl<'a, P: Print> Sheet<'a, P> {
     // A row that asks for a yes, which is printed as 1.
     pub fn holds<A: Display + Drop>(&mut self, asked: A, got: bool) -> io::Result<()> {
         self.row(asked, got as u8, 1)
+    }
+
+    // A row that asks for a refusal, which is printed by its number.
+    pub fn refuses<A: Display + Drop>(
+        &mut self,
+        asked: A,
+        got: Option<Refusal>,
+        wanted: Refusal,
+    ) -> io::Result<()> {
+        self.row(asked, Refused(got), Refused(Some(wanted)))
     }
 
     pub fn total(&self) -> io::Result<()> {

@@ -11,13 +11,13 @@ use slots::Slots;
 use std::fmt::Display;
 use std::{fmt, io};
 
-// The answer to a frame, a delivery's bytes left aside, and a refusal by its number.
+// The answer to a frame, a delivery's bytes left aside.
 #[derive(Clone, Copy, PartialEq, Eq)]
 enum Answer {
     Delivered,
     Nothing,
     NotOurs,
-    Refused(u8),
+    Refused(Refusal),
 }
 
 impl From<Result<Received, Refusal>> for Answer {
@@ -26,19 +26,19 @@ impl From<Result<Received, Refusal>> for Answer {
             Ok(Received::Delivered(_)) => Answer::Delivered,
             Ok(Received::Nothing) => Answer::Nothing,
             Ok(Received::NotOurs) => Answer::NotOurs,
-            Err(refusal) => Answer::Refused(refusal.number()),
+            Err(refusal) => Answer::Refused(refusal),
         }
     }
 }
 
-// The answers that are no refusal are shown by numbers that no refusal has.
+// A refusal is shown by its number, and the other answers by numbers that no refusal has.
 impl Display for Answer {
     fn fmt<W: fmt::Write>(&self, f: &mut fmt::Formatter<W>) -> fmt::Result {
         match *self {
             Answer::Nothing => write!(f, "0"),
             Answer::Delivered => write!(f, "100"),
             Answer::NotOurs => write!(f, "200"),
-            Answer::Refused(number) => write!(f, "{number}"),
+            Answer::Refused(refusal) => write!(f, "{}", refusal.number()),
         }
     }
 }
@@ -138,7 +138,11 @@ pub(crate) fn one_byte(sheet: &mut Sheet<impl Print>) -> io::Result<()> {
     let first = scans.hear_scan(0, b"\xA0");
     sheet.row("case 7, fresh slot, A0", first, Answer::Nothing)?;
     let last = scans.hear_scan(1, b"\x07\x40");
-    sheet.row("case 7, then 07 40", last, Answer::Refused(6))
+    sheet.row(
+        "case 7, then 07 40",
+        last,
+        Answer::Refused(Refusal::Residue),
+    )
 }
 
 // Case 8: a fresh slot expects ID 0, and takes any other.
@@ -173,7 +177,7 @@ pub(crate) fn never_seen(sheet: &mut Sheet<impl Print>) -> io::Result<()> {
     )?;
     let middle = scans.hear_scan(1, b"\x07\x09");
     let asked = "case 10, then a middle frame with ID 9";
-    sheet.row(asked, middle, Answer::Refused(5))?;
+    sheet.row(asked, middle, Answer::Refused(Refusal::NoSession))?;
     let then = scans.hear_scan(2, b"\x07\xE8");
     let asked = "case 10, then a single frame with ID 8 in time";
     sheet.row(asked, then, Answer::Nothing)
@@ -250,13 +254,11 @@ pub(crate) fn request(sheet: &mut Sheet<impl Print>) -> io::Result<()> {
 pub(crate) fn response(sheet: &mut Sheet<impl Print>) -> io::Result<()> {
     let id = 0x126B_BDAA;
     let mut responses = Listener::<9216>::new(Port::Response(information(123)), 32, 72);
-    let mut silent = 0u64;
     let (first, last) = (&cases::RESPONSE[..10], cases::RESPONSE[10]);
-    for frame in first {
-        if responses.hear(marks(id, 7), frame) == Answer::Nothing {
-            silent = silent.wrapping_add(1);
-        }
-    }
+    let silent = first
+        .iter()
+        .filter(|frame| responses.hear(marks(id, 7), frame) == Answer::Nothing)
+        .count();
     let asked = "response, frames before the last answered by nothing";
     sheet.row(asked, silent, 10)?;
     let right = responses.delivers(id, last, &cases::NODE_INFORMATION);
@@ -278,19 +280,43 @@ pub(crate) fn anonymous(sheet: &mut Sheet<impl Print>) -> io::Result<()> {
 pub(crate) fn refusals(sheet: &mut Sheet<impl Print>) -> io::Result<()> {
     let mut small = Listener::<255>::new(SCANS, 32, 2);
     let asked = "a store of 255 bytes at extent 2";
-    sheet.row(asked, small.hear(marks(BEYOND, 0), b""), Answer::Refused(7))?;
+    sheet.row(
+        asked,
+        small.hear(marks(BEYOND, 0), b""),
+        Answer::Refused(Refusal::StoreTooSmall),
+    )?;
     let middle = b"\x07\x00";
     let frames: [(&str, u32, &[u8], Answer); 6] = [
-        ("a frame of no bytes", BEYOND, b"", Answer::Refused(2)),
-        ("a frame of 65 bytes", BEYOND, &[0; 65], Answer::Refused(3)),
-        ("a CAN ID over 2^29", BEYOND, middle, Answer::Refused(1)),
-        ("a CAN ID with bit 23", RESERVED, middle, Answer::Refused(4)),
+        (
+            "a frame of no bytes",
+            BEYOND,
+            b"",
+            Answer::Refused(Refusal::NoBytes),
+        ),
+        (
+            "a frame of 65 bytes",
+            BEYOND,
+            &[0; 65],
+            Answer::Refused(Refusal::FrameTooLong),
+        ),
+        (
+            "a CAN ID over 2^29",
+            BEYOND,
+            middle,
+            Answer::Refused(Refusal::CanId),
+        ),
+        (
+            "a CAN ID with bit 23",
+            RESERVED,
+            middle,
+            Answer::Refused(Refusal::ReservedBit),
+        ),
         ("a frame of subject 257", OTHER, middle, Answer::NotOurs),
         (
             "a middle frame with no session",
             SCAN,
             middle,
-            Answer::Refused(5),
+            Answer::Refused(Refusal::NoSession),
         ),
     ];
     for (asked, id, frame, wanted) in frames {
@@ -300,16 +326,15 @@ pub(crate) fn refusals(sheet: &mut Sheet<impl Print>) -> io::Result<()> {
     Ok(())
 }
 
-// The number of the answer to making: 0 for made, a refusal's otherwise.
-fn making(subject: u16, extent: usize) -> u8 {
-    let mut slots = [[0; 4]; 128];
-    match Subscription::new(Port::Message(SubjectId(subject)), 32, extent, &mut slots) {
-        Ok(_) => 0,
-        Err(refusal) => refusal.number(),
-    }
+// The refusal of a subscription that is made.
+fn making(subject: u16, extent: usize) -> Option<Refusal> {
+    let port = Port::Message(SubjectId(subject));
+    Subscription::new(port, 32, extent, &mut [[0; 4]; 128]).err()
 }
 
 pub(crate) fn makings(sheet: &mut Sheet<impl Print>) -> io::Result<()> {
-    sheet.row("making, subject 8192, extent 1025", making(8192, 1025), 12)?;
-    sheet.row("making, subject 8191, extent 1025", making(8191, 1025), 8)
+    let asked = "making, subject 8192, extent 1025";
+    sheet.refuses(asked, making(8192, 1025), Refusal::Field)?;
+    let asked = "making, subject 8191, extent 1025";
+    sheet.refuses(asked, making(8191, 1025), Refusal::ExtentTooLarge)
 }

@@ -1,7 +1,7 @@
 // The real sender over the real queue: what is sent is popped, and compared frame by frame with what the sheet or the document has.
 use crate::cases;
 use crate::print::Sheet;
-use queue::{ArrayQueue, Held, Place};
+use queue::{ArrayQueue, Held, PLACE, Place};
 use rules::frame::Marks;
 use rules::header::Header;
 use rules::refusal::Refusal;
@@ -28,7 +28,7 @@ impl<const PLACES: usize> Line<PLACES> {
         };
         Line {
             queue: ArrayQueue::new(PLACES).unwrap_or(none),
-            places: [[0; 76]; PLACES],
+            places: [[0; PLACE]; PLACES],
         }
     }
 
@@ -64,6 +64,7 @@ impl<const PLACES: usize> Line<PLACES> {
     }
 
     // The stamp of the frame that leaves next; 0 where there is none.
+    // That is no `Option`, as the row prints the number; no frame of the case has the stamp 0.
     fn pop_stamp(&mut self) -> u32 {
         self.pop().map_or(0, |frame| frame.marks.stamp)
     }
@@ -165,9 +166,7 @@ pub(crate) fn node_information(sheet: &mut Sheet<impl Print>) -> io::Result<()> 
     let response = Header::Response(cases::service(4, 430, 123, 42));
     line.send(8, request, 1, b"");
     line.send(8, response, 1, &cases::NODE_INFORMATION);
-    let mut n = 0u8;
-    for frame in cases::RESPONSE {
-        n = n.wrapping_add(1);
+    for (n, frame) in (1u8..).zip(cases::RESPONSE) {
         line.next(
             sheet,
             format_args!("response, frame {n}"),
@@ -204,10 +203,9 @@ pub(crate) fn returned_first(sheet: &mut Sheet<impl Print>) -> io::Result<()> {
     sheet.row("case 13, stamp of the second out", line.pop_stamp(), 1)
 }
 
-// The number of the answer to a send: 0 for done, a refusal's otherwise.
-fn answer(mtu: usize, header: Header, payload: &[u8]) -> u8 {
-    let refused = Line::<16>::new().send(mtu, header, 0, payload);
-    refused.map_or(0, Refusal::number)
+// The refusal of a send into an empty queue of 16 places.
+fn refusal(mtu: usize, header: Header, payload: &[u8]) -> Option<Refusal> {
+    Line::<16>::new().send(mtu, header, 0, payload)
 }
 
 // Refusals of a send, each by its number.
@@ -215,15 +213,17 @@ pub(crate) fn refusals(sheet: &mut Sheet<impl Print>) -> io::Result<()> {
     let scan = cases::message(4, 256, cases::node(42));
     let nobody = cases::message(4, 256, cases::nobody());
     let urgent = cases::message(8, 256, cases::node(42));
-    sheet.row("a send at MTU 16, refusal", answer(16, scan, b""), 9)?;
-    sheet.row("a send at priority 8, refusal", answer(8, urgent, b""), 12)?;
-    sheet.row(
-        "a send of 1025 bytes, refusal",
-        answer(8, scan, &[0; 1025]),
-        10,
-    )?;
+    let asked = "a send at MTU 16, refusal";
+    sheet.refuses(asked, refusal(16, scan, b""), Refusal::Mtu)?;
+    let asked = "a send at priority 8, refusal";
+    sheet.refuses(asked, refusal(8, urgent, b""), Refusal::Field)?;
+    let asked = "a send of 1025 bytes, refusal";
+    let got = refusal(8, scan, &[0; 1025]);
+    sheet.refuses(asked, got, Refusal::PayloadTooLong)?;
     let asked = "an anonymous send of 8 bytes at MTU 8, refusal";
-    sheet.row(asked, answer(8, nobody, b"12345678"), 11)?;
+    let got = refusal(8, nobody, b"12345678");
+    sheet.refuses(asked, got, Refusal::AnonymousTooLong)?;
     let asked = "a send of 1024 bytes at MTU 8 to 16 places, refusal";
-    sheet.row(asked, answer(8, scan, &[0; 1024]), 13)
+    let got = refusal(8, scan, &[0; 1024]);
+    sheet.refuses(asked, got, Refusal::NoPlace)
 }

@@ -5,7 +5,7 @@ use Prim.Native.Nat.{ℕ, zero, suc, ◌+◌, ◌*◌, ◌/◌, ◌%◌, ◌^◌
 use native.Mathlib.Nat.{mod-lt}
 use native.Mathlib.Omega.{arith}
 use lib.Dec.{lit<}
-use lib.ListN.{length, get_or, take, drop, take-append-drop, length-drop}
+use lib.ListN.{length, get_or, take, drop, take-append-drop, length-drop, drop_of_length-le}
 use lib.Seq.{take-suc, take_all}
 use lib.Bits.{bit_xor, xor_lt, xor_zero_r, xor_shr, xor_mod}
 use Rattle.laws.specs.Xor.{KeepsXor}
@@ -64,6 +64,10 @@ wide_more k v b h =
 
 -- ---- the bytes of a list
 
+-- a register stays where no byte is left
+pub none_left : (c : ℕ) (s : List ℕ) (k : ℕ) → length s ≤ k → c ≡ crc_from c (drop k s)
+none_left c s k h = sym (ap (crc_from c) (drop_of_length-le s h))
+
 -- one byte after another is a fold
 pub by_fold : (c : ℕ) (s : List ℕ) → crc_from c s ≡ fold crc_byte c s
 by_fold c [] = refl
@@ -83,7 +87,11 @@ eights_joined (suc k) s h =
     let l : k * 8 ≡ length (drop 8 s) = simp length-drop (omega arith) in
     ap (λ (t : List ℕ). take 8 s ++ t) (eights_joined k (drop 8 s) l) ∙ take-append-drop 8 s
 
-module _ (s : List ℕ) (bytes : (j : ℕ) → get_or s j 0 < 2 ^ 8) where
+-- each element is a byte
+abbrev pub Bytes : List ℕ → Type 0
+Bytes s = (j : ℕ) → get_or s j 0 < 2 ^ 8
+
+module _ (s : List ℕ) (bytes : Bytes s) where
   -- the first k bytes, as a number that is added to the moved register
   block : (k c : ℕ) → c < 2 ^ 16 → k ≤ length s → crc_from c (take k s) ≡ bit_xor (crc_bits (8 * k) c) (wide k (value s k))
   unfolding crc_bits wide

@@ -95,7 +95,7 @@ seven_leaves = agree (leave 8) (leave 7) 56 tt
 abbrev stepped : Kept
 stepped = sum (shl 16 8) (chain (sum (shr 8) (shr 12)) (with (shl 16) (12 ∷ 5 ∷ [])))
 
-byte_moves : (y : ℕ) → y < 2 ^ 16 → stepped.of y ≡ crc_bits 8 y
+pub byte_moves : (y : ℕ) → y < 2 ^ 16 → stepped.of y ≡ crc_bits 8 y
 unfolding crc_bits crc_bit
 byte_moves y h = agree stepped (move 8) 16 tt y h ∙ ap (crc_bits 8) (mod-eq_of_lt h)
 

@@ -1,19 +1,21 @@
 -- A place that was filled with a frame says that frame, and what a place says is handed out with zeros behind it.
+use Rattle.std.specs.Prelude.{Option, Some}
 use mathlib.Core.Path.{◌≡◌, refl, sym, ap, ◌∙◌}
 use mathlib.Core.Bool.{Bool, true, false, cond, not}
 use mathlib.Core.List.{List, [], ◌∷◌, ◌++◌, append-nil}
-use Prim.Native.Nat.{ℕ, suc, ◌+◌, ◌/◌, ◌%◌, ◌≤◌, ◌<◌, min}
+use Prim.Native.Nat.{ℕ, suc, ◌+◌, ◌-◌, ◌/◌, ◌%◌, ◌≤◌, ◌<◌, min}
 use native.Mathlib.Omega.{arith}
 use lib.Dec.{eqb}
-use lib.ListN.{length, get_or, set, take, drop, length-append, length-drop, drop_of_length-le}
-use lib.Seq.{get_or-take, take_all, drop-cons, append_snoc, take-append_seam, set-append_seam, take-set-le, drop-set-add}
+use lib.ListN.{length, get_or, set, take, drop, replicate, length-append, length-drop, drop_of_length-le}
+use lib.Seq.{get_or-take, length-take-le, take_all, drop-cons, append_snoc, take-append_seam, set-append_seam, take-set-le, drop-set-add}
 use borrow.Rule.Slice.PartMut.{put_mid}
 use Rattle.laws.specs.Laid.{laid}
 use Rattle.rules.specs.Limits.{greatest_frame}
 use Rattle.rules.specs.Frames.{frame}
 use Rattle.rules.specs.Transfer.{tailed}
 use Rattle.rules.specs.declared.frame.Marks.{Marks}
-use Rattle.queue.specs.Place.{joined, place_length, head_of, frame_of}
+use Rattle.queue.specs.Place.{joined, place_length, head_of, frame_of, held_of}
+use Rattle.queue.specs.declared.Held.{Held}
 
 -- the mark tells the loopback
 told : (b : Bool) → not (eqb (cond b 1 0) 0) ≡ b
@@ -86,3 +88,18 @@ filled_tailed marks part behind place tail l h e =
         ∙ ap (λ (xs : List ℕ). set xs (length part) tail) (laid_all part behind l (omega arith) ∙ ap (λ (xs : List ℕ). part ++ xs) (drop-cons behind (length part) 0 (omega arith)))
         ∙ set-append_seam part _ _ tail
         ∙ sym (append_snoc part tail _)
+
+-- what is read of a place and copied from it
+pub fetched : (place bytes : List ℕ) (count id stamp : ℕ) → length place ≡ 76 →
+    id ≡ joined (get_or place 0 0) (get_or place 1 0) (get_or place 2 0) (get_or place 3 0) →
+    stamp ≡ joined (get_or place 4 0) (get_or place 5 0) (get_or place 6 0) (get_or place 7 0) →
+    count ≡ min (get_or place 9 0) greatest_frame →
+    bytes ≡ laid (take (12 + count - 12) (drop 12 place)) (replicate greatest_frame 0) →
+    ◌≡◌ {A = Option Held} (Some record { marks = record { stamp = stamp; id = id; loopback = not (eqb (get_or place 8 0) 0) }; length = count; bytes = bytes })
+    (held_of (Some (frame_of place)))
+fetched place bytes count id stamp l ei es ec eb =
+    let n : ℕ = min (get_or place 9 0) greatest_frame in
+    let a : 12 + count - 12 ≡ n = omega arith in
+    let k : count ≡ length (take n (drop 12 place)) = ec ∙ sym (length-take-le n (drop 12 place) (omega (arith, length-drop 12 place))) in
+    let b : bytes ≡ laid (take n (drop 12 place)) (replicate greatest_frame 0) = eb ∙ ap (λ (x : ℕ). laid (take x (drop 12 place)) (replicate greatest_frame 0)) a in
+    cc (ei, es, k, b)

@@ -73,6 +73,13 @@ module _ (head cap n : ℕ) (before : List (List ℕ)) (hh : head < cap) (hn : n
             rw h (there l (at head cap l i) j (omega arith) hl ∙ ap (at head cap l) s ∙ g.high j (omega arith) hj)
 
   module _ (id : ℕ) where
+    pub above_none : Above head cap n before id before n
+    above_none =
+        record {
+          gap = record { as_many = refl; inside = omega arith; low = λ k h. refl; high = λ k h₁ h₂. absurd (omega arith) };
+          above = λ k h₁ h₂. absurd (omega arith);
+        }
+
     pub above_more :
         (i j q p : ℕ) (l : List (List ℕ)) → i + 1 ≡ j → q ≡ slot_of head cap i → p ≡ slot_of head cap j → cap ≤ length l → Above head cap n before id l j →
         id < (frame_of (get_or l q [])).id → Above head cap n before id (set l p (get_or l q [])) i

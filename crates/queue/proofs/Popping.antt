@@ -1,7 +1,7 @@
 -- The first frame of a queue stands at its head; without it the queue is the ring that starts one place on.
-use Rattle.std.specs.Prelude.{Option, Some, is_some}
+use Rattle.std.specs.Prelude.{None, Option, Some, is_some}
 use mathlib.Core.Path.{◌≡◌, refl, sym, ap, ◌∙◌}
-use mathlib.Core.Bool.{true, false, false≢true}
+use mathlib.Core.Bool.{true, false, true≢false, false≢true}
 use mathlib.Core.List.{List, [], ◌∷◌}
 use Prim.Native.Nat.{ℕ, suc, ◌-◌, ◌<◌}
 use native.Mathlib.Omega.{arith}
@@ -16,7 +16,7 @@ use Rattle.queue.specs.Queue.{sound, frame_at, contents, free, capacity_is, Pops
 use Rattle.queue.specs.declared.ArrayQueue.{ArrayQueue}
 use Rattle.queue.specs.declared.Held.{Held}
 use Rattle.queue.proofs.Slots.{slot_zero, slot_next, slot_one_below, tab_same}
-use Rattle.queue.proofs.State.{Sound, sound_of, contents_of, free_of, with_frames}
+use Rattle.queue.proofs.State.{Sound, sound_of, contents_of, free_of, none_of, with_frames}
 
 -- the state without its first frame
 abbrev next : ArrayQueue → ArrayQueue
@@ -60,7 +60,15 @@ module _ (q : ArrayQueue) (places : List (List ℕ)) (s : Sound q (length places
         kept = rw split;
       })
 
+-- where there is no frame, none is handed out
+pub at_none : (q : ArrayQueue) (places : List (List ℕ)) → eqb (length (contents q places)) 0 ≡ true → held_of None ≡ held_of (first (contents q places))
+at_none q places e = rw (none_of (contents q places) e)
+
 -- whether there is a frame, by what is handed out
+none_held : (fs : List Frame) → is_some (held_of (first fs)) ≡ false → fs ≡ []
+none_held [] e = refl
+none_held (f ∷ fs) e = absurd (true≢false e)
+
 some_held : (fs : List Frame) → is_some (held_of (first fs)) ≡ true → eqb (length fs) 0 ≡ false
 some_held [] e = absurd (false≢true e)
 some_held (f ∷ fs) e = ne_eqb (suc (length fs)) 0 (λ w. omega arith)
@@ -69,3 +77,8 @@ module _ (q : ArrayQueue) (places : List (List ℕ)) (h : Option Held) (e : h �
   -- where a frame is handed out one is queued
   pub found_queued : is_some h ≡ true → Sound q (length places) × (0 < q.length)
   found_queued t = with_frames q places (some_held (contents q places) (rw e at t))
+
+  pub pops_nothing : is_some h ≡ false → Pops q places (record { queue = q; held = h })
+  pops_nothing t =
+      let n : contents q places ≡ [] = none_held (contents q places) (rw e at t) in
+      rw e (record { answered = refl; queued = rw n; left = rw n; capacity = refl; kept = rw n })

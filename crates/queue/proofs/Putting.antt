@@ -103,6 +103,9 @@ pub placed_in : (q : ArrayQueue) (places : List (List ℕ)) (f : Frame) → Ok t
 placed_in q places f e = with_room q places (placed_fits (free q places) f (sym e)).spare
 
 module _ (put : Frame → List Frame → List Frame) (q : ArrayQueue) (places : List (List ℕ)) (f : Frame) where
+  pub refuses : (r : Refusal) → Err r ≡ placed (free q places) f → Places put q places f (record { queue = q; answer = Err r }) places
+  refuses r e = record { answered = e; queued = refl; left = refl; capacity = refl; kept = (refl, refl) }
+
   -- the frame is written into the place that was opened for it
   pub places_it : {head p : ℕ} {places' : List (List ℕ)} (place : List ℕ) (r : Pushed) → Ok tt ≡ placed (free q places) f → Opens put q head f.id places places' p →
       frame_of place ≡ f → r ≡ record { queue = grown q head; answer = Ok tt } → Places put q places f r (set places' p place)

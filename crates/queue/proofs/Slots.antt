@@ -71,6 +71,13 @@ slot_next head cap k h hk = from_there head cap 1 k (suc k) h (omega arith) (ome
 pub slot_back : (head cap k : ℕ) → head < cap → suc k < cap → slot_of (one_back head cap) cap (suc k) ≡ slot_of head cap k
 slot_back head cap k h hk = from_there head cap (cap - 1) (suc k) k h (omega arith) hk (omega arith) (inr (omega arith))
 
+-- where the place before p lies: before the first is the last
+pub before_first : (cap p : ℕ) → p < cap → p ≡ 0 → one_back p cap ≡ cap - 1
+before_first cap p h e = ⊎_elim (λ w. omega arith) (λ w. omega arith) (lies p cap (cap - 1))
+
+pub before_other : (cap p : ℕ) → p < cap → 0 < p → one_back p cap ≡ p - 1
+before_other cap p h w = ⊎_elim (λ v. omega arith) (λ v. omega arith) (lies p cap (cap - 1))
+
 -- from the j-th place to the one before it, and to the one behind it
 pub to_before : (head cap i j p : ℕ) → head < cap → j < cap → i + 1 ≡ j → p ≡ slot_of head cap j → one_back p cap ≡ slot_of head cap i
 to_before head cap i j p h hj e ep = rw ep (from_there head cap j (cap - 1) i h hj (omega arith) (omega arith) (inr (omega arith)))

@@ -2,9 +2,9 @@
 use mathlib.Core.Path.{◌≡◌, refl, ◌∙◌, subst}
 use mathlib.Core.Bool.{Bool, true, false, cond}
 use mathlib.Core.List.{List, [], ◌∷◌}
-use Prim.Native.Nat.{ℕ, ◌-◌, ◌≤◌, ◌<◌}
+use Prim.Native.Nat.{ℕ, suc, ◌-◌, ◌≤◌, ◌<◌}
 use native.Mathlib.Omega.{arith}
-use borrow.Author.Tests.{lt-ltb, le-leb, ltb-true, leb-true, eqb-false}
+use borrow.Author.Tests.{lt-ltb, le-leb, ltb-true, leb-true, eqb-true, eqb-false}
 use lib.Dec.{eqb}
 use lib.ListN.{length}
 use Rattle.laws.proofs.Choose.{both_true}
@@ -35,6 +35,11 @@ sound_parts q lent e =
 
 pub sound_of : (q : ArrayQueue) (lent : ℕ) → Sound q lent → sound q lent ≡ true
 sound_of q lent s = simp (lt-ltb _ _ s.head, le-leb _ _ s.room, le-leb _ _ s.small, le-leb _ _ s.enough)
+
+-- whether there is a frame, by the test of the length
+pub none_of : (fs : List Frame) → eqb (length fs) 0 ≡ true → fs ≡ []
+none_of [] e = refl
+none_of (f ∷ fs) e = absurd (let z = eqb-true (suc (length fs)) 0 e in omega arith)
 
 some_of : (fs : List Frame) → eqb (length fs) 0 ≡ false → 0 < length fs
 some_of [] e = absurd (eqb-false 0 0 e refl)

@@ -60,6 +60,9 @@ by_marks stamp total m l t = go (flag_of (m / 512))
     go true = refl
     go false = refl
 
+pub marks_awaited : (m : ℕ) (l t : Bool) → eqb (m / 512 % 16) (1 + 2 * bit l + 8 * bit t) ≡ session_awaits (session_in 0 m 0) l t
+marks_awaited m l t = grind arith
+
 -- ---- one frame further
 
 time_mark : (time m : ℕ) → (time_words (last_time_in time m)).mark ≡ 256 * (m / 256 % 2)
@@ -87,7 +90,7 @@ words_on_lem w p h =
     (ap (λ (n : ℕ). (time_words (last_time_in (get_or w 0 0) m)).time ∷ get_or w 1 0 ∷ n ∷ p.total ∷ []) (marks_on (get_or w 0 0) m p.crc))
 
 -- with no session the words are as they were
-words_kept : (w : List ℕ) (p : Progress) → flag_of (get_or w 2 0 / 512) ≡ false → words_on w p ≡ w
+pub words_kept : (w : List ℕ) (p : Progress) → flag_of (get_or w 2 0 / 512) ≡ false → words_on w p ≡ w
 unfolding words_on slot_of
 words_kept w p h = rw h
 

@@ -44,6 +44,18 @@ fits_last m zero p k f s h r = record { fits = f; few = omega arith; room = r }
 fits_last m (suc zero) p k f s h r = record { fits = f; few = omega arith; room = r }
 fits_last m (suc (suc n)) p k f s h r = absurd (omega (arith, f.more, suc-mul (suc n) m, suc-mul n m))
 
+pub last_one : (m n b : ℕ) → Last m n b → n ≡ 0 → b ≤ 63
+last_one m n b r e = omega (arith, r.fits.all, r.room, ap (λ (x : ℕ). x * m) e, zero-mul m)
+
+pub last_two : (m n b : ℕ) → Last m n b → (n ≡ 0 → ⊥) → (n ≡ 1) × (m < b) × (b ≤ m + m)
+last_two m n b r h =
+    let e : n ≡ 1 = omega (arith, r.few, nonzero n h) in
+    (e, omega (arith, r.fits.more, ap (λ (x : ℕ). x * m) e, one-mul m), omega (arith, r.fits.all, ap (λ (x : ℕ). x * m) e, one-mul m))
+  where
+    nonzero : (n : ℕ) → (n ≡ 0 → ⊥) → 0 < n
+    nonzero zero f = absurd (f refl)
+    nonzero (suc n) f = omega arith
+
 -- which of both it is, is told by whether they fit one frame
 pub over_is : (m n b : ℕ) → Last m n b → over m b ≡ n
 over_is m zero b r = rw (le-leb b m (omega (arith, r.fits.all, zero-mul m)))

@@ -1,14 +1,42 @@
 -- Frames put one after the other: a frame that finds a place is pushed, and what is still owed falls by each frame that is put.
-use Rattle.std.proofs.Common.{◌≡◌, ℕ, suc, ◌+◌, ◌-◌, ◌<◌, ◌≤◌, Bool, false, not, List, [], ◌∷◌, ◌++◌, length, take, drop, refl, ap, ◌∙◌, subst, arith}
+use Rattle.std.specs.Prelude.{Ok, Result}
+use Rattle.std.proofs.Common.{◌≡◌, ℕ, suc, ◌+◌, ◌-◌, ◌<◌, ◌≤◌, Bool, true, false, not, List, [], ◌∷◌, ◌++◌, length, take, drop, refl, ap, ◌∙◌, subst, arith, le-leb}
 use Rattle.rules.specs.declared.frame.Marks.{Marks}
+use Rattle.rules.specs.declared.refusal.Refusal.{Refusal}
+use Rattle.rules.specs.Limits.{greatest_can_id, greatest_frame}
 use Rattle.rules.specs.TailByte.{tail_byte}
 use Rattle.rules.specs.Transfer.{tailed, cut}
+use Rattle.rules.specs.Frames.{frame}
+use Rattle.rules.specs.Queue.{pushed, after}
 use Rattle.rules.specs.Sending.{all_pushed}
 use Rattle.rules.proofs.Transfer.{cut_count}
 use Rattle.queue.specs.declared.ArrayQueue.{ArrayQueue}
-use Rattle.queue.specs.Queue.{contents, free, capacity_of}
+use Rattle.queue.specs.declared.Pushed.{Pushed}
+use Rattle.queue.specs.Queue.{contents, free, capacity_of, Places}
 use Rattle.tx.specs.Send.{Puts}
 use Rattle.tx.proofs.Cuts.{cut_on}
+
+-- ---- one frame
+
+pub put_one : (marks : Marks) (f' f : List ℕ) {q : ArrayQueue} {ps ps' : List (List ℕ)} {r : Pushed} → f' ≡ f → Places pushed q ps (frame marks f') r ps'
+    → 0 < free q ps → marks.id ≤ greatest_can_id → length f ≤ greatest_frame → Puts marks (f ∷ []) q ps r.queue ps'
+put_one marks f' f {q} {ps} {ps'} {r} same p place id short =
+    let l : length f' ≤ greatest_frame = rw same short in
+    let e : r.answer ≡ Ok tt = p.answered ∙ simp (le-leb _ _ l, le-leb _ _ id, le-leb 1 (free q ps) place) in
+    record {
+      queued = p.queued ∙ ap (λ (a : Result (Unit {0}) Refusal). after a (pushed (frame marks f') (contents q ps)) (contents q ps)) e ∙ ap (λ (x : List ℕ). pushed (frame marks x) (contents q ps)) same;
+      left = omega (arith, p.left ∙ ap (λ (a : Result (Unit {0}) Refusal). after a (free q ps - 1) (free q ps)) e);
+      capacity = p.capacity;
+    }
+
+pub put_two : (marks : Marks) (f g : List ℕ) {q q₁ q₂ : ArrayQueue} {ps ps₁ ps₂ : List (List ℕ)}
+    → Puts marks (f ∷ []) q ps q₁ ps₁ → Puts marks (g ∷ []) q₁ ps₁ q₂ ps₂ → Puts marks (f ∷ g ∷ []) q ps q₂ ps₂
+put_two marks f g a b =
+    record {
+      queued = b.queued ∙ ap (pushed (frame marks g)) a.queued;
+      left = omega (arith, a.left, b.left);
+      capacity = b.capacity ∙ a.capacity;
+    }
 
 -- ---- what is owed
 
@@ -55,3 +83,14 @@ turn marks id m n ys part rest behind start toggle {q} {q₀} {q'} {ps} {ps₀} 
     let l : n ≡ suc (n - 1) = omega arith in
     let c = ap (λ (k : ℕ). cut m id start toggle k (ys ++ behind)) l ∙ cut_on m id start toggle (n - 1) ys behind h in
     rw er (owes_less (subst (λ (x : List (List ℕ)). Owes marks x q ps fs₀ q₀ ps₀) c o) (rw ep at p))
+
+-- ---- the end
+
+pub one_done : (marks : Marks) (m id : ℕ) (start toggle : Bool) (n : ℕ) (ys : List ℕ) {q q₁ : ArrayQueue} {ps ps₁ : List (List ℕ)}
+    → n ≡ 0 → Puts marks (tailed ys (tail_byte start true toggle id) ∷ []) q ps q₁ ps₁ → Puts marks (cut m id start toggle n ys) q ps q₁ ps₁
+one_done marks m id start toggle n ys e p = rw e p
+
+pub two_done : (marks : Marks) (m id : ℕ) (start toggle : Bool) (n : ℕ) (ys : List ℕ) {q q₁ q₂ : ArrayQueue} {ps ps₁ ps₂ : List (List ℕ)}
+    → n ≡ 1 → (zs : List ℕ) → zs ≡ drop m ys → Puts marks (tailed (take m ys) (tail_byte start false toggle id) ∷ []) q ps q₁ ps₁
+    → Puts marks (tailed zs (tail_byte false true (not toggle) id) ∷ []) q₁ ps₁ q₂ ps₂ → Puts marks (cut m id start toggle n ys) q ps q₂ ps₂
+two_done marks m id start toggle n ys e zs ez p r = rw e (put_two marks _ _ p (rw ez at r))

@@ -6,7 +6,7 @@ use Prim.Native.Nat.{ℕ, zero, suc, ◌+◌, ◌<◌}
 use native.Mathlib.Nat.{zero-add, le_of_suc-le-suc, not-suc-le-zero, eq-or-lt_of_le}
 use native.Mathlib.Omega.{arith}
 use lib.Dec.{T}
-use lib.ListN.{get_or}
+use lib.ListN.{get_or, length}
 use Rattle.laws.specs.Tables.{tabulate, all_below}
 
 from : (f : ℕ → ℕ) (i n k : ℕ) → k < n → get_or (tabulate f i n) k 0 ≡ f (i + k)
@@ -17,6 +17,10 @@ from f i (suc n) (suc k) h = from f (suc i) n k (le_of_suc-le-suc h) ∙ ap f (o
 -- the entry k of a table that f makes
 pub tabulated : (f : ℕ → ℕ) (n k : ℕ) → k < n → get_or (tabulate f 0 n) k 0 ≡ f k
 tabulated f n k h = from f 0 n k h ∙ ap f (zero-add k)
+
+pub length_tabulate : (f : ℕ → ℕ) (i n : ℕ) → length (tabulate f i n) ≡ n
+length_tabulate f i zero = ap (λ (k : ℕ). k) (omega arith)
+length_tabulate f i (suc n) = ap suc (length_tabulate f (suc i) n)
 
 pub first_holds : (a b : Bool) → T (a && b) → T a
 first_holds true b t = tt

@@ -49,6 +49,9 @@ pub size_bounds : (u : Mtu) → (8 ≤ size_of u) × (size_of u ≤ 64)
 size_bounds Can8 = (omega arith, omega arith)
 size_bounds CanFd64 = (omega arith, omega arith)
 
+pub crc_length_le : (u : Mtu) (p : ℕ) → crc_length u p ≤ 2
+crc_length_le u p = either_way (λ (n : ℕ). n ≤ 2) (leb p (room_of u)) (omega arith) (omega arith)
+
 -- AS MANY FRAMES AS TAILS
 pub frames_tails : (u : Mtu) (p : ℕ) → frames u p ≡ tails u p
 unfolding frames tails

@@ -22,21 +22,36 @@ fn ends<const N: usize>(src: &[u8], dst: &mut [u8])
 {
     let last = src.len() - N;
     put::<N>(src, dst);
-    put::<N>(&src[last..], &mut dst[last..]);
+    put::<N>(&src[last..last + N], &mut dst[last..last + N]);
 }
 
-// Copies all of src. `copy_from_slice` alone takes 32,609 instructions to send 1,024 bytes at MTU 8 and 39,377 to receive them; with the blocks they are 30,983
-// and 35,301. Out of line: in line it keeps its callers from being put in line, and the send takes 36,821.
+// Copies 16 bytes and more by blocks of sixteen, of which the last ends where the bytes end and may overlap the one before it.
+fn sixteens(src: &[u8], dst: &mut [u8])
+    requires { (16 ≤ length src.now) × (length src.now ≤ length dst.old) }
+    ensures { dst.new ≡ laid src.now dst.old }
+{
+    let last = src.len() - 16;
+    for k in 0..src.len().div_ceil(16) {
+        let at = last.min(16 * k);
+        put::<16>(&src[at..at + 16], &mut dst[at..at + 16]);
+    }
+}
+
+// Copies all of src. Out of line: in line it keeps its callers from being put in line, and a send of 1,024 bytes at MTU 8 takes half as many instructions again.
 #[inline(never)]
 fn whole(src: &[u8], dst: &mut [u8])
     requires { length src.now ≤ length dst.old }
     ensures { dst.new ≡ laid src.now dst.old }
 {
     match src.len() {
+        0 => {}
+        1 => put::<1>(src, dst),
         2..=3 => ends::<2>(src, dst),
         4..=7 => ends::<4>(src, dst),
         8..=15 => ends::<8>(src, dst),
-        n => dst[..n].copy_from_slice(src),
+        16..=32 => ends::<16>(src, dst),
+        33..=64 => ends::<32>(src, dst),
+        _ => sixteens(src, dst),
     }
 }
 

@@ -6,7 +6,7 @@ ghost use Rattle.std.specs.Prelude.{◌≡◌, ◌+◌, ◌≤◌, ◌++◌, len
 ghost use Rattle.laws.specs.Laid.{laid};
 ghost use Rattle.blocks.specs.Laid.{Copied};
 
-// Copies the first N bytes. They are held in between, so that the compiler sees that no write changes what is read, and makes one load and one store.
+// Copies the first N bytes. They are held in between, so that the compiler sees that no write changes what is read, and makes one load and one store, or two.
 fn put<const N: usize>(src: &[u8], dst: &mut [u8])
     requires { (N ≤ length src.now) × (N ≤ length dst.old) }
     ensures { dst.new ≡ take N src.now ++ drop N dst.old }
@@ -37,7 +37,8 @@ fn sixteens(src: &[u8], dst: &mut [u8])
     }
 }
 
-// Copies all of src. Out of line: in line it keeps its callers from being put in line, and a send of 1,024 bytes at MTU 8 takes half as many instructions again.
+// Copies all of src. Not by `copy_from_slice`: of a length that is not known it calls `memmove`, which a board with no C library would have to bring. Out of line: in
+// line it keeps its callers from being put in line, and a send of 1,024 bytes at MTU 8 takes some 45 in a hundred instructions more.
 #[inline(never)]
 fn whole(src: &[u8], dst: &mut [u8])
     requires { length src.now ≤ length dst.old }
